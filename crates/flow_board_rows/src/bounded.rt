@@ -3,7 +3,7 @@
 ghost use Rattle.std.specs.Prelude.{◌≡◌};
 ghost use Rattle.flow_board.specs.Parts.{AllTasksOf, entry_board, exit_board, watched_board};
 
-use crate::networks::{bounded, gathered, journal, watched};
+use crate::networks::{BOUNDED, gathered, journal, watched};
 use crate::polls::{ready, wait};
 use crate::ports::{entry_alone, exit_alone, look, only_entry, only_exit};
 use crate::rounds::turn_all;
@@ -205,7 +205,7 @@ fn ends(
 #[test]
 fn a_bounded_buffer_takes_what_it_has_room_for(rt: HostRuntime) {
     let alloc = rt.alloc();
-    let (parts, watch) = watched(&rt, alloc, bounded(alloc));
+    let (parts, watch) = watched(&rt, alloc, BOUNDED, "b?");
     let Parts {
         board,
         tasks,

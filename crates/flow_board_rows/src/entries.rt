@@ -1,6 +1,6 @@
 //! What becomes of values at an entry, by its calls, while tasks are turned.
 
-use crate::networks::{buffer_parts, gathered, once, reader, watched};
+use crate::networks::{ONCE, READER, buffer_parts, gathered, watched};
 use crate::ports::{entry_alone, look, only_entry};
 use flow_board::Parts;
 use flow_link::{Ending, Outcome};
@@ -15,7 +15,7 @@ fn values_that_wait_when_it_is_scattered_are_told_in_turn(rt: HostRuntime) {
         tasks,
         entries,
         exits,
-    } = buffer_parts(&rt, alloc, &[1, 2]);
+    } = buffer_parts(&rt, alloc, "b=1 b=2 b?");
     let mut entry = only_entry(&rt, &board, entries);
     let (tasks, sent) = look(&rt, alloc, &board, tasks, &mut entry);
     assert!(rt; matches!(sent, Sent::Accepted));
@@ -42,7 +42,7 @@ fn an_entry_is_busy_while_a_value_is_under_way(rt: HostRuntime) {
         tasks,
         entries,
         ..
-    } = buffer_parts(&rt, alloc, &[]);
+    } = buffer_parts(&rt, alloc, "b?");
     let mut entry = only_entry(&rt, &board, entries);
     assert!(rt; entry.begin_send(alloc, &board, Value::Int(1)).is_ok());
     let posted = entry.begin_post(alloc, &board, Value::Int(2));
@@ -59,7 +59,7 @@ fn an_entry_is_busy_while_a_value_is_under_way(rt: HostRuntime) {
 #[test]
 fn a_block_that_takes_one_value_sends_later_ones_back_for_good(rt: HostRuntime) {
     let alloc = rt.alloc();
-    let (parts, mut watch) = watched(&rt, alloc, once(alloc));
+    let (parts, mut watch) = watched(&rt, alloc, ONCE, "b?");
     let Parts {
         board,
         tasks,
@@ -86,7 +86,7 @@ fn a_block_that_has_faulted_sends_values_back_for_good(rt: HostRuntime) {
     let Ok(text) = Text::from_str(alloc, "x") else {
         panic!(rt; "out of memory");
     };
-    let (parts, mut watch) = watched(&rt, alloc, reader(alloc));
+    let (parts, mut watch) = watched(&rt, alloc, READER, "b?");
     let Parts {
         board,
         tasks,

@@ -1,6 +1,6 @@
 //! What is received at an exit while tasks are turned.
 
-use crate::networks::{buffer_parts, counted_parts, gathered};
+use crate::networks::{buffer_parts, gathered};
 use crate::polls::wait;
 use crate::ports::{exit_alone, only_exit, receive};
 use crate::rounds::turn_all;
@@ -17,7 +17,7 @@ fn what_leads_out_is_received(rt: HostRuntime) {
         tasks,
         entries,
         exits,
-    } = counted_parts(&rt, alloc);
+    } = buffer_parts(&rt, alloc, "b=1 b=2");
     let mut exit = only_exit(&rt, &board, exits);
     assert!(rt; matches!(exit.available(alloc, &board), Ok(None)));
     let (tasks, received) = receive(&rt, alloc, &board, tasks, &mut exit);
@@ -43,7 +43,7 @@ fn what_leads_out_is_received(rt: HostRuntime) {
 #[test]
 fn nothing_comes_while_the_input_stays_open(rt: HostRuntime) {
     let alloc = rt.alloc();
-    let Parts { board, exits, .. } = buffer_parts(&rt, alloc, &[]);
+    let Parts { board, exits, .. } = buffer_parts(&rt, alloc, "b?");
     let exit = only_exit(&rt, &board, exits);
     let mut receiving = Receive::new(alloc, ExitAt::new(&board, exit));
     wait(&rt, &mut receiving);

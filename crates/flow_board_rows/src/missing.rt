@@ -52,7 +52,7 @@ fn an_entry_that_is_kept_back_is_missing(rt: HostRuntime) {
         tasks,
         entries,
         exits,
-    } = buffer_parts(&rt, alloc, &[]);
+    } = buffer_parts(&rt, alloc, "b?");
     let entry = only_entry(&rt, &board, entries);
     let parts = Parts {
         board,
@@ -74,7 +74,7 @@ fn an_exit_that_is_kept_back_is_missing(rt: HostRuntime) {
         tasks,
         entries,
         exits,
-    } = buffer_parts(&rt, alloc, &[]);
+    } = buffer_parts(&rt, alloc, "b?");
     let exit = only_exit(&rt, &board, exits);
     let parts = Parts {
         board,

@@ -2,112 +2,53 @@
 ghost use Rattle.std.specs.Prelude.{◌≡◌};
 ghost use Rattle.flow_board.specs.Parts.{AllEntriesOf, AllExitsOf, AllTasksOf, watched_board};
 
-use anyhow::Result;
 use flow_board::{Parts, Watch, gather, scatter};
-use flow_front::Inputs;
-use flow_link::{BlockDef, BlockKind, Draft, Ending, LinkDef, Mark};
+use flow_drawn::inputs;
+use flow_link::Mark;
 use flow_net::{Net, Settled};
-use flow_value::{Steps, Text, Value};
+use flow_value::Steps;
 use std::alloc::Global;
 use std::process::Abort;
 
-/// A buffer to which 1, 2 and 3 are posted, a transform that doubles them in so many lanes, and an action that records them.
-fn chain(alloc: Global, lanes: u32) -> Result<Inputs<Steps>> {
-    let double = Steps::read(alloc, &["mul 2"])?;
-    let keep = Steps::read(alloc, &["id"])?;
-    let plan = Draft::new(alloc)
-        .block(BlockDef::named(alloc, "in", BlockKind::Buffer)?.input())?
-        .block(
-            BlockDef::named(alloc, "double", BlockKind::Transform)?
-                .work(double)
-                .lanes(lanes),
-        )?
-        .block(BlockDef::named(alloc, "out", BlockKind::Action)?.work(keep))?
-        .link(LinkDef::between(alloc, "in", "double")?.propagate())?
-        .link(LinkDef::between(alloc, "double", "out")?.propagate())?
-        .check(alloc)?;
-    let mut inputs = Inputs::of(alloc, plan)?;
-    inputs.post("in", Value::Int(1))?;
-    inputs.post("in", Value::Int(2))?;
-    inputs.post("in", Value::Int(3))?;
-    inputs.end("in", Ending::Complete)?;
-    Ok(inputs)
-}
+/// A buffer, a transform that doubles numbers, and an action that records them.
+const CHAIN: &str =
+    "in* buffer, double transform(mul 2), out action(id), in => double, double => out";
 
-/// A buffer to which the texts 1, 2 and 3 are posted, a transform that reads the numbers, and an action that records them.
-fn parse_three(alloc: Global) -> Result<Inputs<Steps>> {
-    let read = Steps::read(alloc, &["int"])?;
-    let keep = Steps::read(alloc, &[])?;
-    let plan = Draft::new(alloc)
-        .block(BlockDef::named(alloc, "in", BlockKind::Buffer)?.input())?
-        .block(BlockDef::named(alloc, "t", BlockKind::Transform)?.work(read))?
-        .block(BlockDef::named(alloc, "out", BlockKind::Action)?.work(keep))?
-        .link(LinkDef::between(alloc, "in", "t")?.propagate())?
-        .link(LinkDef::between(alloc, "t", "out")?.propagate())?
-        .check(alloc)?;
-    let mut inputs = Inputs::of(alloc, plan)?;
-    inputs.post("in", Value::Text(Text::from_str(alloc, "1")?))?;
-    inputs.post("in", Value::Text(Text::from_str(alloc, "2")?))?;
-    inputs.post("in", Value::Text(Text::from_str(alloc, "3")?))?;
-    inputs.end("in", Ending::Complete)?;
-    Ok(inputs)
-}
+/// The chain whose transform has two lanes.
+const LANED: &str =
+    "in* buffer, double transform(mul 2) lanes 2, out action(id), in => double, double => out";
 
-/// A buffer that leads out of the network. These numbers are posted to it, and its input ends so.
-fn buffer(alloc: Global, numbers: &[i64], ending: Ending) -> Result<Inputs<Steps>> {
-    let plan = Draft::new(alloc)
-        .block(
-            BlockDef::named(alloc, "b", BlockKind::Buffer)?
-                .input()
-                .output(),
-        )?
-        .check(alloc)?;
-    let mut inputs = Inputs::of(alloc, plan)?;
-    for number in numbers {
-        inputs.post("b", Value::Int(*number))?;
-    }
-    inputs.end("b", ending)?;
-    Ok(inputs)
-}
+/// What is posted to the chain.
+const NUMBERS: &str = "in=1 in=2 in=3";
 
-/// A block alone, whose input stays open.
-fn single(alloc: Global, block: BlockDef<Steps>) -> Result<Inputs<Steps>> {
-    let plan = Draft::new(alloc).block(block.input())?.check(alloc)?;
-    let mut inputs = Inputs::of(alloc, plan)?;
-    inputs.end("b", Ending::Open)?;
-    Ok(inputs)
-}
+/// A buffer, a transform that reads numbers, and an action that records them.
+const READS: &str = "in* buffer, t transform(int), out action(), in => t, t => out";
 
-/// A buffer with room for one message, which stays open and leads out of the network.
-pub(crate) fn bounded(alloc: Global) -> Result<Inputs<Steps>> {
-    let block = BlockDef::named(alloc, "b", BlockKind::Buffer)?;
-    single(alloc, block.capacity(1).output())
-}
+/// A buffer that leads out of the network.
+const BUFFER: &str = "b* buffer output true";
 
-/// A block that takes one message, and stays open for it.
-pub(crate) fn once(alloc: Global) -> Result<Inputs<Steps>> {
-    single(alloc, BlockDef::named(alloc, "b", BlockKind::WriteOnce)?)
-}
+/// A buffer with room for one message, which leads out of the network.
+pub(crate) const BOUNDED: &str = "b* buffer capacity 1 output true";
 
-/// An action that reads numbers, and stays open.
-pub(crate) fn reader(alloc: Global) -> Result<Inputs<Steps>> {
-    let read = Steps::read(alloc, &["int"])?;
-    let block = BlockDef::named(alloc, "b", BlockKind::Action)?;
-    single(alloc, block.work(read))
-}
+/// A block that takes one message.
+pub(crate) const ONCE: &str = "b* write_once";
 
-/// The parts of the network of these inputs, and a watch of its first block.
+/// An action that reads numbers.
+pub(crate) const READER: &str = "b* action(int)";
+
+/// The parts of the network that is drawn so, with these records, and a watch of its first block.
 pub(crate) fn watched(
     rt: &impl Abort,
     alloc: Global,
-    inputs: Result<Inputs<Steps>>,
+    network: &str,
+    records: &str,
 ) -> (Parts<Steps>, Watch<Steps>)
     ensures tasks_of { AllTasksOf result.0.board result.0.tasks.items }
     ensures entries_of { AllEntriesOf result.0.board result.0.entries.items }
     ensures exits_of { AllExitsOf result.0.board result.0.exits.items }
     ensures watch_of { watched_board result.1 ≡ result.0.board }
 {
-    let Ok(inputs) = inputs else {
+    let Some(inputs) = inputs(alloc, network, records) else {
         panic!(rt; "no plan");
     };
     let Ok(net) = inputs.start(alloc) else {
@@ -123,13 +64,13 @@ pub(crate) fn watched(
     (parts, watch)
 }
 
-/// The parts of the network of these inputs.
-fn scattered(rt: &impl Abort, alloc: Global, inputs: Result<Inputs<Steps>>) -> Parts<Steps>
+/// The parts of the network that is drawn so, with these records.
+fn scattered(rt: &impl Abort, alloc: Global, network: &str, records: &str) -> Parts<Steps>
     ensures tasks_of { AllTasksOf result.board result.tasks.items }
     ensures entries_of { AllEntriesOf result.board result.entries.items }
     ensures exits_of { AllExitsOf result.board result.exits.items }
 {
-    let (parts, _) = watched(rt, alloc, inputs);
+    let (parts, _) = watched(rt, alloc, network, records);
     parts
 }
 
@@ -140,7 +81,7 @@ pub(crate) fn chain_watched(rt: &impl Abort, alloc: Global) -> (Parts<Steps>, Wa
     ensures exits_of { AllExitsOf result.0.board result.0.exits.items }
     ensures watch_of { watched_board result.1 ≡ result.0.board }
 {
-    watched(rt, alloc, chain(alloc, 1))
+    watched(rt, alloc, CHAIN, NUMBERS)
 }
 
 /// The parts of the chain.
@@ -149,7 +90,7 @@ pub(crate) fn chain_parts(rt: &impl Abort, alloc: Global) -> Parts<Steps>
     ensures entries_of { AllEntriesOf result.board result.entries.items }
     ensures exits_of { AllExitsOf result.board result.exits.items }
 {
-    scattered(rt, alloc, chain(alloc, 1))
+    scattered(rt, alloc, CHAIN, NUMBERS)
 }
 
 /// The parts of the chain whose transform has two lanes.
@@ -158,7 +99,7 @@ pub(crate) fn laned_parts(rt: &impl Abort, alloc: Global) -> Parts<Steps>
     ensures entries_of { AllEntriesOf result.board result.entries.items }
     ensures exits_of { AllExitsOf result.board result.exits.items }
 {
-    scattered(rt, alloc, chain(alloc, 2))
+    scattered(rt, alloc, LANED, NUMBERS)
 }
 
 /// The parts of the network that reads three numbers.
@@ -167,25 +108,16 @@ pub(crate) fn parse_parts(rt: &impl Abort, alloc: Global) -> Parts<Steps>
     ensures entries_of { AllEntriesOf result.board result.entries.items }
     ensures exits_of { AllExitsOf result.board result.exits.items }
 {
-    scattered(rt, alloc, parse_three(alloc))
+    scattered(rt, alloc, READS, "in,1 in,2 in,3")
 }
 
-/// The parts of the buffer that stays open, and to which these numbers are posted.
-pub(crate) fn buffer_parts(rt: &impl Abort, alloc: Global, numbers: &[i64]) -> Parts<Steps>
+/// The parts of the buffer, with these records.
+pub(crate) fn buffer_parts(rt: &impl Abort, alloc: Global, records: &str) -> Parts<Steps>
     ensures tasks_of { AllTasksOf result.board result.tasks.items }
     ensures entries_of { AllEntriesOf result.board result.entries.items }
     ensures exits_of { AllExitsOf result.board result.exits.items }
 {
-    scattered(rt, alloc, buffer(alloc, numbers, Ending::Open))
-}
-
-/// The parts of the buffer of two numbers.
-pub(crate) fn counted_parts(rt: &impl Abort, alloc: Global) -> Parts<Steps>
-    ensures tasks_of { AllTasksOf result.board result.tasks.items }
-    ensures entries_of { AllEntriesOf result.board result.entries.items }
-    ensures exits_of { AllExitsOf result.board result.exits.items }
-{
-    scattered(rt, alloc, buffer(alloc, &[1, 2], Ending::Complete))
+    scattered(rt, alloc, BUFFER, records)
 }
 
 /// The parts of a network, scattered once more.

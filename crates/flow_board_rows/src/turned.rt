@@ -107,7 +107,7 @@ fn turns_may_stop_anywhere(rt: HostRuntime) {
 #[test]
 fn an_open_input_is_an_entry(rt: HostRuntime) {
     let alloc = rt.alloc();
-    let parts = buffer_parts(&rt, alloc, &[]);
+    let parts = buffer_parts(&rt, alloc, "b?");
     assert!(rt; parts.tasks.len() == 1);
     assert!(rt; parts.entries.len() == 1);
     assert!(rt; parts.exits.len() == 1);

@@ -1,5 +1,5 @@
 //! Batched joins: groups of so many messages from all ports.
-use crate::drawn::{check_cases, read_case};
+use crate::cases::{check_cases, read_case};
 use flow_net::{Net, Settled};
 use flow_trial::{Asked, came_to, do_first, in_order};
 use flow_value::Steps;

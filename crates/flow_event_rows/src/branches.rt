@@ -1,5 +1,5 @@
 //! Networks whose links branch and meet, whose blocks have room for so many messages, and whose links carry some messages or so many.
-use crate::drawn::{check_cases, check_drafts, fault_of};
+use crate::cases::{check_cases, check_drafts, fault_of};
 use flow_link::{Place, PlanFault};
 use std::test::Fail;
 

@@ -1,5 +1,5 @@
 //! Blocks that copy: each link is given a copy of the element.
-use crate::drawn::check_cases;
+use crate::cases::check_cases;
 use std::test::Fail;
 
 const BROADCASTS: &str = r#"

@@ -1,5 +1,5 @@
 //! Two faults that come over links into one block: which of them counts.
-use crate::drawn::read_case;
+use crate::cases::read_case;
 use flow_link::{LinkEnd, Move};
 use flow_trial::{Asked, is_done};
 use std::test::Fail;

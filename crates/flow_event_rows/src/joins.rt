@@ -1,5 +1,5 @@
 //! Joins: a row of one message from each port, as long as each port has one.
-use crate::drawn::{check_cases, fault_of};
+use crate::cases::{check_cases, fault_of};
 use flow_link::{Place, PlanFault};
 use std::test::Fail;
 

@@ -7,11 +7,11 @@ mod batched_joins;
 #[cfg(test)]
 mod branches;
 #[cfg(test)]
+mod cases;
+#[cfg(test)]
 mod check;
 #[cfg(test)]
 mod copies;
-#[cfg(test)]
-mod drawn;
 #[cfg(test)]
 mod events;
 #[cfg(test)]

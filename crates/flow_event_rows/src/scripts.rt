@@ -9,7 +9,7 @@
 //! `settle`            all that may happen
 //! `change`            from here on the steps are those of an equal network, or of the first one again
 //! `shows LINES`       nothing: the report has these lines
-use crate::drawn::split_word;
+use flow_drawn::split_word;
 use flow_link::{Ending, LinkEnd, LinkId, Move, PortId};
 use flow_net::Net;
 use flow_trial::{Asked, PAIR, Results, THREE, came_to, is_done, network, settles};

@@ -165,7 +165,7 @@ fn accepts(rt: &impl Abort, alloc: Global, port: &mut NetEntry<Steps>, count: us
 #[test]
 fn a_bounded_buffer_takes_what_it_has_room_for(rt: HostRuntime) {
     let alloc = rt.alloc();
-    let net = buffer(&rt, alloc, Ending::Open);
+    let net = buffer(&rt, alloc, "b?");
     let net = posts(&rt, alloc, net, 1, Became::Accepted);
     let net = posts(&rt, alloc, net, 2, Became::Declined(2));
     let net = send_later(&rt, alloc, net, 2);
@@ -186,7 +186,7 @@ fn a_bounded_buffer_takes_what_it_has_room_for(rt: HostRuntime) {
 #[test]
 fn a_declined_value_is_not_posted(rt: HostRuntime) {
     let alloc = rt.alloc();
-    let net = buffer(&rt, alloc, Ending::Open);
+    let net = buffer(&rt, alloc, "b?");
     let net = posts(&rt, alloc, net, 1, Became::Accepted);
     let mut net = posts(&rt, alloc, net, 2, Became::Declined(2));
     let Some(block) = net.plan().find("b") else {
@@ -199,7 +199,7 @@ fn a_declined_value_is_not_posted(rt: HostRuntime) {
 #[test]
 fn an_exit_of_a_block_that_has_ended_is_over(rt: HostRuntime) {
     let alloc = rt.alloc();
-    let net = buffer(&rt, alloc, Ending::Complete);
+    let net = buffer(&rt, alloc, "none");
     let net = receives(&rt, alloc, net, Err(Outcome::Done));
     let net = tells(&rt, alloc, net, false);
     has_no_entry(&rt, net, 0);
@@ -208,7 +208,7 @@ fn an_exit_of_a_block_that_has_ended_is_over(rt: HostRuntime) {
 #[test]
 fn nothing_comes_from_an_input_that_stays_open(rt: HostRuntime) {
     let alloc = rt.alloc();
-    let mut receiving = Receive::new(alloc, exit(&rt, buffer(&rt, alloc, Ending::Open)));
+    let mut receiving = Receive::new(alloc, exit(&rt, buffer(&rt, alloc, "b?")));
     wait(&rt, &mut receiving);
     let mut watching = OutputAvailable::new(alloc, receiving.into_port());
     wait(&rt, &mut watching);

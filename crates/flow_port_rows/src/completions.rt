@@ -6,7 +6,7 @@ ghost use Rattle.flow_block.specs.Traits.{target_over};
 
 use crate::networks::bounded;
 use flow_kinds::Buffer;
-use flow_link::{BlockDef, BlockKind, DataflowBlock, Ending, Outcome, Plan};
+use flow_link::{BlockDef, BlockKind, DataflowBlock, Outcome, Plan};
 use flow_poll::Completion;
 use flow_value::Steps;
 use futures::task::Poll;
@@ -52,9 +52,7 @@ fn completed(rt: &impl Abort, buffer: Buffer) -> Buffer
 #[test]
 fn a_buffer_that_is_done_is_told(rt: HostRuntime) {
     let alloc = rt.alloc();
-    let Ok(inputs) = bounded(alloc, Ending::Open) else {
-        panic!(&rt; "no plan");
-    };
+    let inputs = bounded(&rt, alloc, "b?");
     let Ok(task) = MockTask::new(&rt) else {
         panic!(&rt; "out of memory");
     };

@@ -10,9 +10,9 @@ use flow_value::{Steps, Value};
 use std::alloc::Global;
 use std::process::Abort;
 
-/// The entry of the buffer in front of the block that doubles, where this is posted before.
-fn entry(rt: &impl Abort, alloc: Global, numbers: &[i64]) -> NetEntry<Steps> {
-    entry_of(rt, network(rt, alloc, numbers, false, Ending::Open))
+/// The entry of the buffer in front of the block that doubles, with these records before it.
+fn entry(rt: &impl Abort, alloc: Global, records: &str) -> NetEntry<Steps> {
+    entry_of(rt, network(rt, alloc, records))
 }
 
 /// The entry of the first block of a network.
@@ -62,7 +62,7 @@ fn finishes(rt: &impl Abort, port: &mut NetEntry<Steps>, how: Ending, answer: Re
 #[test]
 fn what_was_posted_before_is_told_first(rt: HostRuntime) {
     let alloc = rt.alloc();
-    let mut port = entry(&rt, alloc, &[1, 2]);
+    let mut port = entry(&rt, alloc, "in=1 in=2 in?");
     let Err((Value::Int(3), SendFault::Busy)) = port.begin(alloc, Value::Int(3), true) else {
         panic!(rt; "a value was begun beside others");
     };
@@ -77,7 +77,7 @@ fn what_was_posted_before_is_told_first(rt: HostRuntime) {
 #[test]
 fn an_entry_ends_its_input_once(rt: HostRuntime) {
     let alloc = rt.alloc();
-    let mut port = entry(&rt, alloc, &[]);
+    let mut port = entry(&rt, alloc, "in?");
     begin(&rt, alloc, &mut port, 1, false);
     finishes(&rt, &mut port, Ending::Complete, Err(SendFault::Busy));
     accepts(&rt, alloc, &mut port);
@@ -93,7 +93,7 @@ fn an_entry_ends_its_input_once(rt: HostRuntime) {
 #[test]
 fn what_is_under_way_stays_for_the_next_entry(rt: HostRuntime) {
     let alloc = rt.alloc();
-    let mut port = entry(&rt, alloc, &[]);
+    let mut port = entry(&rt, alloc, "in?");
     begin(&rt, alloc, &mut port, 1, false);
     let mut net = port.into_net();
     settles(&rt, alloc, &mut net);
@@ -112,6 +112,6 @@ pub(crate) fn has_no_entry(rt: &impl Abort, net: Net<Steps>, block: usize) {
 #[test]
 fn a_block_that_is_no_input_gives_the_network_back(rt: HostRuntime) {
     let alloc = rt.alloc();
-    has_no_entry(&rt, network(&rt, alloc, &[], false, Ending::Open), 1);
-    has_no_entry(&rt, network(&rt, alloc, &[], false, Ending::Complete), 0);
+    has_no_entry(&rt, network(&rt, alloc, "in?"), 1);
+    has_no_entry(&rt, network(&rt, alloc, "none"), 0);
 }

@@ -1,7 +1,7 @@
 //! Exits of networks: by their calls, and by futures.
 
 use crate::networks::{STEPS, exit, network, settles};
-use flow_link::{Ending, Outcome};
+use flow_link::Outcome;
 use flow_net::{Net, NetExit};
 use flow_poll::{OutputAvailable, Receipt, Receive, ReceivePort, Received};
 use flow_value::{Steps, Value};
@@ -46,7 +46,7 @@ fn tells(rt: &impl Abort, alloc: Global, port: &mut NetExit<Steps>, what: Option
 #[test]
 fn messages_come_out_in_order_and_then_the_end(rt: HostRuntime) {
     let alloc = rt.alloc();
-    let net = network(&rt, alloc, &[1, 2, 3], false, Ending::Complete);
+    let net = network(&rt, alloc, "in=1 in=2 in=3");
     let mut port = exit(&rt, net);
     for number in [2, 4, 6] {
         tells(&rt, alloc, &mut port, Some(true));
@@ -59,7 +59,7 @@ fn messages_come_out_in_order_and_then_the_end(rt: HostRuntime) {
 #[test]
 fn an_exit_tells_a_fault(rt: HostRuntime) {
     let alloc = rt.alloc();
-    let mut port = exit(&rt, network(&rt, alloc, &[1], true, Ending::Complete));
+    let mut port = exit(&rt, network(&rt, alloc, "in=1 in,three"));
     receives(&rt, alloc, &mut port, Told::Number(2));
     receives(&rt, alloc, &mut port, Told::Ended(Outcome::Faulted(1)));
 }
@@ -67,7 +67,7 @@ fn an_exit_tells_a_fault(rt: HostRuntime) {
 #[test]
 fn a_network_comes_back_as_it_is(rt: HostRuntime) {
     let alloc = rt.alloc();
-    let mut port = exit(&rt, network(&rt, alloc, &[1, 2], false, Ending::Complete));
+    let mut port = exit(&rt, network(&rt, alloc, "in=1 in=2"));
     receives(&rt, alloc, &mut port, Told::Number(2));
     let mut net = port.into_net();
     settles(&rt, alloc, &mut net);
@@ -86,14 +86,14 @@ fn has_no_exit(rt: &impl Abort, net: Net<Steps>, block: usize) {
 #[test]
 fn a_block_without_an_exit_gives_the_network_back(rt: HostRuntime) {
     let alloc = rt.alloc();
-    has_no_exit(&rt, network(&rt, alloc, &[1], false, Ending::Complete), 0);
-    has_no_exit(&rt, network(&rt, alloc, &[1], false, Ending::Complete), 2);
+    has_no_exit(&rt, network(&rt, alloc, "in=1"), 0);
+    has_no_exit(&rt, network(&rt, alloc, "in=1"), 2);
 }
 
 #[test]
 fn a_look_does_no_more_events_than_it_may(rt: HostRuntime) {
     let alloc = rt.alloc();
-    let Ok(mut port) = network(&rt, alloc, &[1], false, Ending::Complete).exit(1, 1) else {
+    let Ok(mut port) = network(&rt, alloc, "in=1").exit(1, 1) else {
         panic!(rt; "no exit");
     };
     tells(&rt, alloc, &mut port, None);
@@ -103,7 +103,7 @@ fn a_look_does_no_more_events_than_it_may(rt: HostRuntime) {
 #[test]
 fn futures_over_an_exit_are_ready(rt: HostRuntime) {
     let alloc = rt.alloc();
-    let port = exit(&rt, network(&rt, alloc, &[1], false, Ending::Complete));
+    let port = exit(&rt, network(&rt, alloc, "in=1"));
     let Ok(mut task) = MockTask::new(&rt) else {
         panic!(rt; "out of memory");
     };

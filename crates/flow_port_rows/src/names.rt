@@ -1,43 +1,25 @@
 //! What is posted to a name is at the input of that name, and what is asked of a name is told of that block.
-use anyhow::Result;
+use crate::networks::{drawn, settles, started};
 use flow_front::{EndRefused, Inputs, PostRefused, record_of, state_of};
-use flow_link::{BlockDef, BlockKind, Draft, Ending, LinkDef};
-use flow_net::{Net, Settled, State};
+use flow_link::Ending;
+use flow_net::{Net, State};
 use flow_value::{Steps, Value};
 use std::alloc::Global;
 use std::process::Abort;
 
 /// An action, two inputs of it, and between these a buffer that is none.
-fn inputs(alloc: Global) -> Result<Inputs<Steps>> {
-    let work = Steps::read(alloc, &["id"])?;
-    let plan = Draft::new(alloc)
-        .block(BlockDef::named(alloc, "out", BlockKind::Action)?.work(work))?
-        .block(BlockDef::named(alloc, "left", BlockKind::Buffer)?.input())?
-        .block(BlockDef::named(alloc, "middle", BlockKind::Buffer)?)?
-        .block(BlockDef::named(alloc, "right", BlockKind::Buffer)?.input())?
-        .link(LinkDef::between(alloc, "left", "out")?)?
-        .link(LinkDef::between(alloc, "right", "out")?)?
-        .check(alloc)?;
-    Ok(Inputs::of(alloc, plan)?)
-}
+const INPUTS: &str =
+    "out action(id), left* buffer, middle buffer, right* buffer, left -> out, right -> out";
 
 /// The inputs with 1 and 3 posted to the right one, and 2 to the left one between these.
 fn filled(rt: &impl Abort, alloc: Global) -> Inputs<Steps> {
-    let Ok(mut inputs) = inputs(alloc) else {
-        panic!(rt; "no plan");
-    };
-    for (name, number) in [("right", 1), ("left", 2), ("right", 3)] {
-        assert!(rt; inputs.post(name, Value::Int(number)).is_ok());
-    }
-    inputs
+    drawn(rt, alloc, INPUTS, "right=1 left=2 right=3")
 }
 
 /// The network of these inputs, where nothing can move any more.
 pub(crate) fn settled(rt: &impl Abort, alloc: Global, inputs: Inputs<Steps>) -> Net<Steps> {
-    let Ok(mut net) = inputs.start(alloc) else {
-        panic!(rt; "no memory");
-    };
-    assert!(rt; matches!(net.settle(alloc, 1_000), Ok(Settled::Quiet)));
+    let mut net = started(rt, alloc, inputs);
+    settles(rt, alloc, &mut net);
     net
 }
 
@@ -60,9 +42,7 @@ pub(crate) fn are_numbers(rt: &impl Abort, values: &[Value], numbers: &[i64]) {
 #[test]
 fn values_stand_at_the_input_of_their_name(rt: HostRuntime) {
     let alloc = rt.alloc();
-    let Ok(net) = filled(&rt, alloc).start(alloc) else {
-        panic!(rt; "no memory");
-    };
+    let net = started(&rt, alloc, filled(&rt, alloc));
     has_posted(&rt, &net, "left", &[2]);
     has_posted(&rt, &net, "middle", &[]);
     has_posted(&rt, &net, "right", &[1, 3]);
@@ -97,9 +77,7 @@ fn blocks_tell_by_their_names(rt: HostRuntime) {
 #[test]
 fn an_input_ends_as_it_is_told(rt: HostRuntime) {
     let alloc = rt.alloc();
-    let Ok(mut inputs) = inputs(alloc) else {
-        panic!(rt; "no plan");
-    };
+    let mut inputs = drawn(&rt, alloc, INPUTS, "none");
     assert!(rt; inputs.end("right", Ending::Fault(9)).is_ok());
     assert!(rt;
         matches!(

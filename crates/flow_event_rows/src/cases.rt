@@ -1,180 +1,19 @@
-//! Networks that are drawn in a line, of blocks of each kind with their options, as drafts and as texts; and tables of
-//! such networks with records, each with what it comes to.
-//!
-//! `a* buffer` is a block that is an input, `t transform(int+add 1)` one with a function of two steps, and `j join ports 3` one with an
-//! option. `a => j port 1` is a link that propagates, `a -> j` one that does not. Commas stand between them.
+//! Tables of networks that are drawn in a line, with records, each with what it comes to: as texts and as drafts.
 ghost use Rattle.std.specs.Prelude.{◌≤◌};
 
 use crate::check::check;
 use crate::shares::share;
-use flow_front::Inputs;
-use flow_link::{BlockDef, BlockKind, Draft, Ending, LinkDef, PlanFault, PlanRefusal, plan_check};
+use flow_drawn::{Drawn, draft, inputs, read_drawn, split_word};
+use flow_link::{PlanFault, PlanRefusal, plan_check};
 use flow_net::{Net, Settled};
 use flow_text::write_report;
 use flow_trial::{ENOUGH, add, do_first, has_lines, in_order, settles, told_with, wander};
-use flow_value::{Steps, Text, Value, When};
+use flow_value::Steps;
 use std::alloc::{AllocError, Global};
 use std::process::Abort;
 use std::sync::Wait;
 use std::test::Fail;
 use std::thread::Threads;
-
-/// A block or a link as it is drawn: its two ends are the block itself and its kind, or the blocks that it links.
-#[derive(Clone, Copy)]
-struct Drawn<'a> {
-    first: &'a str,
-    second: &'a str,
-    /// Whether it is a link, and then whether it propagates.
-    link: Option<bool>,
-    /// What stands behind, in pairs of a word and its value.
-    options: &'a str,
-}
-
-/// The first word of a text, and what stands behind it.
-pub(crate) fn split_word(text: &str) -> (&str, &str) {
-    text.split_once(" ").unwrap_or((text, ""))
-}
-
-/// The kind of a block with its function, if it has one, or the sign of a link; and what stands behind it.
-fn split_kind(text: &str) -> (&str, &str) {
-    match text.split_once(")") {
-        Some((kind, options)) => (kind, options.strip_prefix(" ").unwrap_or(options)),
-        None => split_word(text),
-    }
-}
-
-fn read_drawn(text: &str) -> Drawn<'_> {
-    let (first, others) = split_word(text);
-    let (second, options) = split_kind(others);
-    let (target, behind) = split_word(options);
-    match second {
-        "=>" => Drawn {
-            first,
-            second: target,
-            link: Some(true),
-            options: behind,
-        },
-        "->" => Drawn {
-            first,
-            second: target,
-            link: Some(false),
-            options: behind,
-        },
-        _ => Drawn {
-            first,
-            second,
-            link: None,
-            options,
-        },
-    }
-}
-
-impl Drawn<'_> {
-    /// The value of an option.
-    fn option(&self, word: &str) -> Option<&str> {
-        let mut rest = self.options;
-        for _ in 0..self.options.len() {
-            let (key, others) = split_word(rest);
-            let (value, behind) = split_word(others);
-            if key == word {
-                return Some(value);
-            }
-            rest = behind;
-        }
-        None
-    }
-
-    fn number(&self, word: &str) -> Option<u32> {
-        self.option(word)?.parse::<u32>().ok()
-    }
-
-    /// The word of the kind, and the steps of its function if it has one, between which a plus sign stands.
-    fn kind_and_work(&self) -> (&str, Option<&str>) {
-        match self.second.split_once("(") {
-            Some((kind, work)) => (kind, Some(work)),
-            None => (self.second, None),
-        }
-    }
-
-    /// The name of the block, and whether it is an input.
-    fn name(&self) -> (&str, bool) {
-        match self.first.strip_suffix("*") {
-            Some(name) => (name, true),
-            None => (self.first, false),
-        }
-    }
-}
-
-fn kind_of(word: &str) -> Option<BlockKind> {
-    Some(match word {
-        "buffer" => BlockKind::Buffer,
-        "broadcast" => BlockKind::Broadcast,
-        "write_once" => BlockKind::WriteOnce,
-        "action" => BlockKind::Action,
-        "transform" => BlockKind::Transform,
-        "transform_many" => BlockKind::TransformMany,
-        "batch" => BlockKind::Batch,
-        "join" => BlockKind::Join,
-        "batched_join" => BlockKind::BatchedJoin,
-        _ => return None,
-    })
-}
-
-/// The function with these steps.
-fn work_of(alloc: Global, work: Option<&str>) -> Result<Option<Steps>, Fail> {
-    let Some(work) = work else {
-        return Ok(None);
-    };
-    let mut steps = Vec::new(alloc);
-    for step in work.split("+") {
-        if !step.is_empty() {
-            steps.push(step)?;
-        }
-    }
-    Ok(Some(Steps::read(alloc, steps.as_slice())?))
-}
-
-fn block_of(alloc: Global, drawn: &Drawn) -> Result<BlockDef<Steps>, Fail> {
-    let (name, input) = drawn.name();
-    let (word, work) = drawn.kind_and_work();
-    Ok(BlockDef {
-        name: Text::from_str(alloc, name)?,
-        kind: kind_of(word).ok_or("no kind")?,
-        input,
-        output: drawn.option("output") == Some("true"),
-        capacity: drawn.number("capacity"),
-        work: work_of(alloc, work)?,
-        lanes: drawn.number("lanes"),
-        size: drawn.number("size"),
-        ports: drawn.number("ports"),
-        greedy: drawn.option("greedy").map(|word| word == "true"),
-    })
-}
-
-fn link_of(alloc: Global, drawn: &Drawn) -> Result<LinkDef, Fail> {
-    Ok(LinkDef {
-        from: Text::from_str(alloc, drawn.first)?,
-        to: Text::from_str(alloc, drawn.second)?,
-        port: drawn.number("port"),
-        when: drawn.option("when").and_then(When::read),
-        max: drawn.number("max"),
-        propagate: drawn.link == Some(true),
-    })
-}
-
-/// The draft that is drawn so.
-pub(crate) fn draft(alloc: Global, drawn: &str) -> Result<Draft<Steps>, Fail> {
-    let mut blocks = Vec::new(alloc);
-    let mut links = Vec::new(alloc);
-    for part in drawn.split(", ") {
-        let part = read_drawn(part);
-        match part.link {
-            Some(_) => links.push(link_of(alloc, &part)?)?,
-            None => blocks.push(block_of(alloc, &part)?)?,
-        }
-    }
-    Ok(Draft { blocks, links })
-}
 
 /// Puts the options at the end of a text, each as a key with its value.
 fn add_options(text: &mut Vec<u8>, options: &str) -> Result<(), AllocError> {
@@ -280,31 +119,10 @@ fn records_of(alloc: Global, words: &str) -> Result<Vec<u8>, AllocError> {
     Ok(records)
 }
 
-/// Posts what the records have for the inputs of a plan.
-fn post_records(alloc: Global, inputs: &mut Inputs<Steps>, records: &str) -> Result<(), Fail> {
-    for record in records.split(" ") {
-        if let Some((input, text)) = record.split_once(",") {
-            let text = Value::Text(Text::from_str(alloc, text)?);
-            inputs.post(input, text).map_err(|_| "not posted")?;
-        }
-        if let Some((input, fault)) = record.split_once("!") {
-            let fault = fault.parse::<u32>().map_err(|_| "no fault")?;
-            inputs
-                .end(input, Ending::Fault(fault))
-                .map_err(|_| "not ended")?;
-        }
-    }
-    Ok(())
-}
-
 impl Case<'_> {
     /// The network, built as a draft, to which the records are posted.
     pub(crate) fn network(&self, alloc: Global) -> Result<Net<Steps>, Fail> {
-        let Ok(plan) = plan_check(alloc, draft(alloc, self.drawn)?) else {
-            return Err(Fail::new("no plan"));
-        };
-        let mut inputs = Inputs::of(alloc, plan)?;
-        post_records(alloc, &mut inputs, self.records)?;
+        let inputs = inputs(alloc, self.drawn, self.records).ok_or("no plan")?;
         Ok(inputs.start(alloc)?)
     }
 
@@ -414,7 +232,7 @@ pub(crate) fn check_drafts(
 
 /// The fault of the draft that is drawn so; none where it is a plan.
 pub(crate) fn fault_of(alloc: Global, drawn: &str) -> Result<Option<PlanFault>, Fail> {
-    match plan_check(alloc, draft(alloc, drawn)?) {
+    match plan_check(alloc, draft(alloc, drawn).ok_or("no draft")?) {
         Ok(_) => Ok(None),
         Err((_, PlanRefusal::Fault(fault))) => Ok(Some(fault)),
         Err((_, PlanRefusal::Memory)) => Err(Fail::new("out of memory")),
