@@ -23,19 +23,29 @@ use std::random::RandomSource;
 #[derive(Clone, Copy, PartialEq)]
 enum Became {
     Accepted,
-    Declined(i64),
-    Permanently(i64),
-    Busy(i64),
+    Declined,
+    Permanently,
+    Busy,
     Strange,
 }
 
-fn outcome_of(answer: Result<Delivery, SendRefusal>) -> Became {
+/// What became of a number, and the number where it came back.
+fn outcome_of(answer: Result<Delivery, SendRefusal>) -> (Became, Option<i64>) {
     match answer {
-        Ok(Delivery::Accepted) => Became::Accepted,
-        Ok(Delivery::Declined(Value::Int(number))) => Became::Declined(number),
-        Ok(Delivery::Permanently(Value::Int(number))) => Became::Permanently(number),
-        Err(SendRefusal::NotBegun(Value::Int(number), SendFault::Busy)) => Became::Busy(number),
-        Ok(Delivery::Declined(_) | Delivery::Permanently(_)) | Err(_) => Became::Strange,
+        Ok(Delivery::Accepted) => (Became::Accepted, None),
+        Ok(Delivery::Declined(value)) => (Became::Declined, value.as_int()),
+        Ok(Delivery::Permanently(value)) => (Became::Permanently, value.as_int()),
+        Err(SendRefusal::NotBegun(value, SendFault::Busy)) => (Became::Busy, value.as_int()),
+        Err(_) => (Became::Strange, None),
+    }
+}
+
+/// Whether this became of a number, which came back unless it was accepted.
+fn is_so(answer: Result<Delivery, SendRefusal>, number: i64, became: Became) -> bool {
+    let (told, back) = outcome_of(answer);
+    match back {
+        Some(back) => told == became && back == number,
+        None => told == became && told == Became::Accepted,
     }
 }
 
@@ -65,7 +75,7 @@ fn posts(
 {
     let posting = Post::new(alloc, EntryAt::new(board, entry), Value::Int(number));
     let (tasks, (port, answer)) = ready(rt, alloc, board, tasks, posting);
-    if outcome_of(answer) != became {
+    if !is_so(answer, number, became) {
         panic!(rt; "something else becomes of {number}");
     }
     (tasks, port.into_entry())
@@ -163,10 +173,10 @@ fn goes_through(
     ensures exit_of { exit_board result.2 ≡ board.now }
 {
     let (tasks, entry) = posts(rt, alloc, board, tasks, entry, 1, Became::Accepted);
-    let (tasks, entry) = posts(rt, alloc, board, tasks, entry, 2, Became::Declined(2));
+    let (tasks, entry) = posts(rt, alloc, board, tasks, entry, 2, Became::Declined);
     let entry = send_later(rt, alloc, board, entry, 2);
     let (tasks, _) = turn_all(rt, alloc, board, tasks, 64, 10);
-    let (tasks, mut entry) = posts(rt, alloc, board, tasks, entry, 9, Became::Busy(9));
+    let (tasks, mut entry) = posts(rt, alloc, board, tasks, entry, 9, Became::Busy);
     let (tasks, exit) = receives(rt, alloc, board, tasks, exit, Ok(1));
     let (tasks, sent) = look(rt, alloc, board, tasks, &mut entry);
     assert!(rt; matches!(sent, Sent::Accepted));
@@ -195,7 +205,7 @@ fn ends(
 {
     assert!(rt; watch.read(board).is_none());
     assert!(rt; entry.finish(board, Ending::Complete).is_ok());
-    let (tasks, mut entry) = posts(rt, alloc, board, tasks, entry, 3, Became::Permanently(3));
+    let (tasks, mut entry) = posts(rt, alloc, board, tasks, entry, 3, Became::Permanently);
     assert!(rt; entry.finish(board, Ending::Fault(7)).is_ok());
     let tasks = completes(rt, alloc, board, tasks, watch);
     let (tasks, exit) = receives(rt, alloc, board, tasks, exit, Err(Outcome::Done));

@@ -1,8 +1,7 @@
 //! A block that has two lanes: each is a task, and what is there when the parts are gathered is out in the network.
-use crate::networks::{again, gathered, journal, laned_parts, settle};
-use crate::rounds::{turn_all, turn_some};
+use crate::networks::{again, journal, laned_parts, settle};
+use crate::rounds::{turned, turned_in_part};
 use crate::told::{Told, has_recorded, is_told};
-use flow_board::Parts;
 use flow_poll::TurnState;
 
 /// How many tasks there are: three blocks, an input and two lanes, in this order.
@@ -13,42 +12,19 @@ const LANES: usize = 2;
 #[test]
 fn jobs_go_through_lanes(rt: HostRuntime) {
     let alloc = rt.alloc();
-    let Parts {
-        board,
-        tasks,
-        entries,
-        exits,
-    } = laned_parts(&rt, alloc);
-    assert!(rt; tasks.len() == TASKS);
-    let (tasks, state) = turn_all(&rt, alloc, &board, tasks, 64, 100);
+    let parts = laned_parts(&rt, alloc);
+    assert!(rt; parts.tasks.len() == TASKS);
+    let (net, state) = turned(&rt, alloc, parts, 64, 100);
     assert!(rt; state == TurnState::Ended);
-    let parts = Parts {
-        board,
-        tasks,
-        entries,
-        exits,
-    };
-    has_recorded(&rt, &gathered(&rt, alloc, parts));
+    has_recorded(&rt, &net);
 }
 
 // No thread does the jobs: the lanes are not turned. Two jobs are out then, and the third message waits.
 #[test]
 fn jobs_in_lanes_are_out_in_the_gathered_network(rt: HostRuntime) {
     let alloc = rt.alloc();
-    let Parts {
-        board,
-        tasks,
-        entries,
-        exits,
-    } = laned_parts(&rt, alloc);
-    let tasks = turn_some(&rt, alloc, &board, tasks, TASKS - LANES, 20);
-    let parts = Parts {
-        board,
-        tasks,
-        entries,
-        exits,
-    };
-    let mut net = gathered(&rt, alloc, parts);
+    let parts = laned_parts(&rt, alloc);
+    let mut net = turned_in_part(&rt, alloc, parts, TASKS - LANES, 20);
     let taken = [Told::Took(1), Told::Took(2), Told::Took(3), Told::Complete];
     is_told(&rt, journal(&rt, &net, "double"), &taken);
     settle(&rt, alloc, &mut net);
@@ -59,33 +35,10 @@ fn jobs_in_lanes_are_out_in_the_gathered_network(rt: HostRuntime) {
 #[test]
 fn jobs_that_are_out_are_done_once_more(rt: HostRuntime) {
     let alloc = rt.alloc();
-    let Parts {
-        board,
-        tasks,
-        entries,
-        exits,
-    } = laned_parts(&rt, alloc);
-    let tasks = turn_some(&rt, alloc, &board, tasks, TASKS - LANES, 20);
-    let parts = Parts {
-        board,
-        tasks,
-        entries,
-        exits,
-    };
-    let net = gathered(&rt, alloc, parts);
-    let Parts {
-        board,
-        tasks,
-        entries,
-        exits,
-    } = again(&rt, alloc, net);
-    let (tasks, state) = turn_all(&rt, alloc, &board, tasks, 64, 100);
+    let parts = laned_parts(&rt, alloc);
+    let net = turned_in_part(&rt, alloc, parts, TASKS - LANES, 20);
+    let parts = again(&rt, alloc, net);
+    let (net, state) = turned(&rt, alloc, parts, 64, 100);
     assert!(rt; state == TurnState::Ended);
-    let parts = Parts {
-        board,
-        tasks,
-        entries,
-        exits,
-    };
-    has_recorded(&rt, &gathered(&rt, alloc, parts));
+    has_recorded(&rt, &net);
 }

@@ -1,8 +1,10 @@
-//! Tasks are turned in rounds.
+//! Tasks are turned in rounds, and gathered.
 ghost use Rattle.std.specs.Prelude.{◌≡◌};
-ghost use Rattle.flow_board.specs.Parts.{AllTasksOf, board_of};
+ghost use Rattle.flow_board.specs.Parts.{AllEntriesOf, AllExitsOf, AllTasksOf, board_of};
 
-use flow_board::{Board, Task};
+use crate::networks::gathered;
+use flow_board::{Board, Parts, Task};
+use flow_net::Net;
 use flow_poll::TurnState;
 use flow_value::Steps;
 use std::alloc::Global;
@@ -90,7 +92,7 @@ pub(crate) fn turn_first(
 }
 
 /// Turns so many of these tasks in so many rounds, and leaves the others.
-pub(crate) fn turn_some(
+fn turn_some(
     rt: &impl Abort,
     alloc: Global,
     board: &Board<Steps>,
@@ -129,4 +131,60 @@ pub(crate) fn turn_all(
         }
     }
     (tasks, TurnState::Moved)
+}
+
+/// The network of these parts, gathered once all tasks were turned so, and how that was for all together.
+pub(crate) fn turned(
+    rt: &impl Abort,
+    alloc: Global,
+    parts: Parts<Steps>,
+    budget: u32,
+    rounds: usize,
+) -> (Net<Steps>, TurnState)
+    requires tasks_of { AllTasksOf parts.board parts.tasks.items }
+    requires entries_of { AllEntriesOf parts.board parts.entries.items }
+    requires exits_of { AllExitsOf parts.board parts.exits.items }
+{
+    let Parts {
+        board,
+        tasks,
+        entries,
+        exits,
+    } = parts;
+    let (tasks, state) = turn_all(rt, alloc, &board, tasks, budget, rounds);
+    let parts = Parts {
+        board,
+        tasks,
+        entries,
+        exits,
+    };
+    (gathered(rt, alloc, parts), state)
+}
+
+/// The network of these parts, gathered once so many tasks were turned in so many rounds, and the others were left.
+pub(crate) fn turned_in_part(
+    rt: &impl Abort,
+    alloc: Global,
+    parts: Parts<Steps>,
+    count: usize,
+    rounds: usize,
+) -> Net<Steps>
+    requires tasks_of { AllTasksOf parts.board parts.tasks.items }
+    requires entries_of { AllEntriesOf parts.board parts.entries.items }
+    requires exits_of { AllExitsOf parts.board parts.exits.items }
+{
+    let Parts {
+        board,
+        tasks,
+        entries,
+        exits,
+    } = parts;
+    let tasks = turn_some(rt, alloc, &board, tasks, count, rounds);
+    let parts = Parts {
+        board,
+        tasks,
+        entries,
+        exits,
+    };
+    gathered(rt, alloc, parts)
 }

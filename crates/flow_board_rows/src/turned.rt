@@ -1,10 +1,9 @@
 //! A network is scattered, turned and gathered.
 use crate::networks::{buffer_parts, chain_parts, gathered, journal, settle};
-use crate::rounds::turn_all;
+use crate::rounds::{turn_all, turned};
 use crate::told::{Told, all_told, begins, has_recorded, is_done, is_told};
 use flow_board::{Parts, Task};
 use flow_link::Mark;
-use flow_net::Net;
 use flow_poll::TurnState;
 use flow_value::Steps;
 use std::alloc::Global;
@@ -58,29 +57,10 @@ fn turned_tasks_end_and_are_gathered(rt: HostRuntime) {
     has_recorded(&rt, &net);
 }
 
-/// The chain, gathered after so many rounds of one event for each task.
-fn chain_after(rt: &impl Abort, alloc: Global, rounds: usize) -> Net<Steps> {
-    let parts = chain_parts(rt, alloc);
-    let Parts {
-        board,
-        tasks,
-        entries,
-        exits,
-    } = parts;
-    let (tasks, _) = turn_all(rt, alloc, &board, tasks, 1, rounds);
-    let parts = Parts {
-        board,
-        tasks,
-        entries,
-        exits,
-    };
-    gathered(rt, alloc, parts)
-}
-
-/// Asserts that a chain that is gathered after so many rounds, where its buffer has begun or not, and its action is not done, goes
-/// on to the same end.
+/// Asserts that a chain that is gathered after so many rounds of one event for each task, where its buffer has begun or not, and
+/// its action is not done, goes on to the same end.
 fn goes_on(rt: &impl Abort, alloc: Global, rounds: usize, has_begun: bool) {
-    let mut net = chain_after(rt, alloc, rounds);
+    let (mut net, _) = turned(rt, alloc, chain_parts(rt, alloc), 1, rounds);
     let first = all_told(rt, alloc, journal(rt, &net, "in"));
     let second = all_told(rt, alloc, journal(rt, &net, "double"));
     let third = all_told(rt, alloc, journal(rt, &net, "out"));

@@ -21,19 +21,29 @@ use std::random::RandomSource;
 #[derive(Clone, Copy, PartialEq)]
 enum Became {
     Accepted,
-    Declined(i64),
-    Permanently(i64),
-    Busy(i64),
+    Declined,
+    Permanently,
+    Busy,
     Strange,
 }
 
-fn outcome_of(answer: Result<Delivery, SendRefusal>) -> Became {
+/// What became of a number, and the number where it came back.
+fn outcome_of(answer: Result<Delivery, SendRefusal>) -> (Became, Option<i64>) {
     match answer {
-        Ok(Delivery::Accepted) => Became::Accepted,
-        Ok(Delivery::Declined(Value::Int(number))) => Became::Declined(number),
-        Ok(Delivery::Permanently(Value::Int(number))) => Became::Permanently(number),
-        Err(SendRefusal::NotBegun(Value::Int(number), SendFault::Busy)) => Became::Busy(number),
-        Ok(Delivery::Declined(_) | Delivery::Permanently(_)) | Err(_) => Became::Strange,
+        Ok(Delivery::Accepted) => (Became::Accepted, None),
+        Ok(Delivery::Declined(value)) => (Became::Declined, value.as_int()),
+        Ok(Delivery::Permanently(value)) => (Became::Permanently, value.as_int()),
+        Err(SendRefusal::NotBegun(value, SendFault::Busy)) => (Became::Busy, value.as_int()),
+        Err(_) => (Became::Strange, None),
+    }
+}
+
+/// Whether this became of a number, which came back unless it was accepted.
+fn is_so(answer: Result<Delivery, SendRefusal>, number: i64, became: Became) -> bool {
+    let (told, back) = outcome_of(answer);
+    match back {
+        Some(back) => told == became && back == number,
+        None => told == became && told == Became::Accepted,
     }
 }
 
@@ -70,7 +80,7 @@ fn posts_at(
     let Poll::Ready((port, answer)) = task.poll(&mut posting) else {
         panic!(rt; "a post waits");
     };
-    if outcome_of(answer) != became {
+    if !is_so(answer, number, became) {
         panic!(rt; "something else becomes of {number}");
     }
     port.into_net()
@@ -167,9 +177,9 @@ fn a_bounded_buffer_takes_what_it_has_room_for(rt: HostRuntime) {
     let alloc = rt.alloc();
     let net = buffer(&rt, alloc, "b?");
     let net = posts(&rt, alloc, net, 1, Became::Accepted);
-    let net = posts(&rt, alloc, net, 2, Became::Declined(2));
+    let net = posts(&rt, alloc, net, 2, Became::Declined);
     let net = send_later(&rt, alloc, net, 2);
-    let net = posts(&rt, alloc, net, 9, Became::Busy(9));
+    let net = posts(&rt, alloc, net, 9, Became::Busy);
     let net = receives(&rt, alloc, net, Ok(1));
     let mut port = entry_of(&rt, net);
     accepts(&rt, alloc, &mut port, 2);
@@ -179,7 +189,7 @@ fn a_bounded_buffer_takes_what_it_has_room_for(rt: HostRuntime) {
     let Ok(()) = port.finish(Ending::Complete) else {
         panic!(rt; "it is busy");
     };
-    let net = posts_at(&rt, alloc, port, 3, Became::Permanently(3));
+    let net = posts_at(&rt, alloc, port, 3, Became::Permanently);
     let _net = receives(&rt, alloc, net, Err(Outcome::Done));
 }
 
@@ -188,7 +198,7 @@ fn a_declined_value_is_not_posted(rt: HostRuntime) {
     let alloc = rt.alloc();
     let net = buffer(&rt, alloc, "b?");
     let net = posts(&rt, alloc, net, 1, Became::Accepted);
-    let mut net = posts(&rt, alloc, net, 2, Became::Declined(2));
+    let mut net = posts(&rt, alloc, net, 2, Became::Declined);
     let Some(block) = net.plan().find("b") else {
         panic!(rt; "no block");
     };
