@@ -18,7 +18,7 @@ use flow_outlet::LinkRule;
 use std::alloc::{AllocError, Global};
 
 /// The way of a link: where its messages come from and go to, and the place that the link has at either.
-#[derive(Clone, Copy, Debug, PartialEq, Eq)]
+#[derive(Clone, Copy, PartialEq, Eq)]
 pub struct Route {
     pub source: LinkSource,
     /// How many links before it leave the same block. At an input, which has one link, it is the place of the input

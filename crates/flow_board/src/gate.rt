@@ -11,7 +11,7 @@ pub trait Gate {
 }
 
 /// A gate that holds nothing up.
-#[derive(Clone, Copy, Debug, Default)]
+#[derive(Clone, Copy, Default)]
 pub struct OpenGate;
 
 impl Gate for OpenGate {

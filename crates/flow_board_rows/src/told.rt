@@ -9,7 +9,7 @@ use std::process::Abort;
 use std::slice::Iter;
 
 /// A mark of a block with one port, by its number.
-#[derive(Clone, Copy, Debug, PartialEq, Eq)]
+#[derive(Clone, Copy, PartialEq, Eq)]
 pub(crate) enum Told {
     Took(i64),
     Gave(i64),

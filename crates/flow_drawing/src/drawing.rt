@@ -8,7 +8,7 @@ use std::io::Write;
 use thiserror::Error;
 
 /// How a network is drawn.
-#[derive(Clone, Copy, Debug, PartialEq, Eq)]
+#[derive(Clone, Copy, PartialEq, Eq)]
 pub enum DrawStyle {
     /// A line for each block, and under it one for each of its links.
     Plain,

@@ -19,7 +19,7 @@ use std::io;
 use std::io::Write;
 
 /// What becomes of a text.
-#[derive(Clone, Copy, Debug, PartialEq, Eq)]
+#[derive(Clone, Copy, PartialEq, Eq)]
 pub enum Verdict {
     /// It is accepted.
     Accepted,

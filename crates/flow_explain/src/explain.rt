@@ -21,7 +21,7 @@ use std::alloc::{AllocError, Global};
 const FORMAT: i64 = 1;
 
 /// What is to be said of a network's text. Spans count from behind a byte order mark.
-#[derive(Debug, Drop)]
+#[derive(Drop)]
 pub enum Answer {
     /// It is accepted, though some of it was hardly meant so.
     Accepted(Vec<Warning>),

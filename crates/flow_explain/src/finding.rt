@@ -8,7 +8,7 @@ use std::fmt::Display;
 const MOST_FLAWS: usize = 100;
 
 /// Something for which a text is refused.
-#[derive(Debug, Drop)]
+#[derive(Drop)]
 pub struct Flaw {
     /// What a run says of it, once it is the first.
     pub fault: TextFault,

@@ -17,7 +17,7 @@ pub struct Source<'s> {
 }
 
 /// How much is printed.
-#[derive(Clone, Copy, Debug, PartialEq, Eq)]
+#[derive(Clone, Copy, PartialEq, Eq)]
 pub enum Style {
     /// Each thing with its line of the text, and at the end what came of it.
     Full,

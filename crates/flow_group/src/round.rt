@@ -18,7 +18,7 @@ use std::alloc::Global;
 use std::marker::Model;
 
 /// What a join that reserves does with what it asks for.
-#[derive(Clone, Copy, Debug, Drop, Eq, PartialEq)]
+#[derive(Clone, Copy, Drop, Eq, PartialEq)]
 pub enum RoundStep {
     /// It asks its sources to keep a message for it, one after another.
     Asks,
@@ -29,7 +29,7 @@ pub enum RoundStep {
 }
 
 /// A link into a join that reserves, and the number of the block from which it comes.
-#[derive(Clone, Copy, Debug, Drop, Eq, PartialEq)]
+#[derive(Clone, Copy, Drop, Eq, PartialEq)]
 pub struct Source {
     /// The link.
     pub link: LinkId,

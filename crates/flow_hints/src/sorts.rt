@@ -5,7 +5,7 @@ use flow_value::{Step, Steps, When};
 use std::alloc::{AllocError, Global};
 
 /// The sorts of values that may come somewhere.
-#[derive(Clone, Copy, Debug, PartialEq, Eq)]
+#[derive(Clone, Copy, PartialEq, Eq)]
 pub(crate) struct Sorts {
     pub(crate) numbers: bool,
     pub(crate) texts: bool,

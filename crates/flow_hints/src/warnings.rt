@@ -12,7 +12,7 @@ use std::alloc::{AllocError, Global};
 const MOST_WARNINGS: usize = 100;
 
 /// Something in a text that is accepted, and that was hardly meant so.
-#[derive(Debug, Drop)]
+#[derive(Drop)]
 pub struct Warning {
     /// Where it stands, in bytes of the text.
     pub span: Span,

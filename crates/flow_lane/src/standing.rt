@@ -5,7 +5,7 @@ ghost use Rattle.flow_lane.specs.Standing.{looked_at, number_of, stands_ended, s
 use crate::phase::LanePhase;
 
 /// Where a lane stands, as far as its block knows, with the ticket of the job that was put.
-#[derive(Clone, Copy, Debug, PartialEq, Eq)]
+#[derive(Clone, Copy, PartialEq, Eq)]
 pub enum Standing {
     /// Nothing is in it.
     Free,

@@ -15,7 +15,7 @@ use flow_link::{LinkEnd, LinkId, Outcome, SourceStage};
 use flow_value::{MessageHeader, MessageStatus, Value, When};
 
 /// What the plan says of a link that leads out of a block.
-#[derive(Clone, Copy, Debug, PartialEq, Eq)]
+#[derive(Clone, Copy, PartialEq, Eq)]
 pub struct LinkRule {
     /// The link.
     pub id: LinkId,
@@ -32,7 +32,7 @@ pub struct LinkRule {
 }
 
 /// The source's end of a link: what the plan says of the link, and how far the source has come.
-#[derive(Clone, Copy, Debug, PartialEq, Eq)]
+#[derive(Clone, Copy, PartialEq, Eq)]
 pub struct OutEnd {
     /// What the plan says.
     pub rule: LinkRule,

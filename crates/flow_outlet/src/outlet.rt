@@ -36,7 +36,7 @@ use std::marker::Model;
 /// The messages that a block has to give, and its ends of the links over which they go. It gives each message once.
 ///
 /// Contracts see an `OutletState`.
-#[derive(Debug, Drop)]
+#[derive(Drop)]
 pub struct Outlet {
     pub(crate) ends: Vec<OutEnd>,
     pub(crate) left: VecDeque<Value>,

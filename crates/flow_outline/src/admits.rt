@@ -3,7 +3,7 @@ use flow_reading::{PrintedValue, ValueKind};
 use std::fmt;
 
 /// The predicate of a link; but for `Any` it admits numbers alone.
-#[derive(Clone, Copy, Debug, PartialEq, Eq)]
+#[derive(Clone, Copy, PartialEq, Eq)]
 pub enum Admits {
     Any,
     Even,

@@ -4,7 +4,7 @@ use crate::kind::Kind;
 use flow_reading::{PrintedList, Report};
 
 /// A block of a network.
-#[derive(Clone, Copy, Debug, PartialEq, Eq)]
+#[derive(Clone, Copy, PartialEq, Eq)]
 pub struct BlockOutline<'a> {
     pub name: &'a str,
     pub kind: Kind,
@@ -25,7 +25,7 @@ pub struct BlockOutline<'a> {
 }
 
 /// A link of a network.
-#[derive(Clone, Copy, Debug, PartialEq, Eq)]
+#[derive(Clone, Copy, PartialEq, Eq)]
 pub struct LinkOutline {
     /// The number of its source among the blocks.
     pub from: usize,
@@ -41,7 +41,7 @@ pub struct LinkOutline {
 }
 
 /// A network: its blocks and links, each by its number.
-#[derive(Debug, Drop)]
+#[derive(Drop)]
 pub struct Outline<'a> {
     pub blocks: Vec<BlockOutline<'a>>,
     pub links: Vec<LinkOutline>,

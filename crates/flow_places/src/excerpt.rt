@@ -11,7 +11,7 @@ const MOST_COLUMNS: usize = 60;
 const LEFT_OUT: &str = "...";
 
 /// The line on which a range begins, as a terminal shows it, and the columns of the range.
-#[derive(Debug, Drop)]
+#[derive(Drop)]
 pub struct Excerpt {
     /// The line without its end. A control character is a space, what is no UTF-8 a replacement character, and of a
     /// long line the middle with the range.

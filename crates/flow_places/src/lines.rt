@@ -6,7 +6,7 @@ ghost use Rattle.flow_places.specs.Chars.{begins_char};
 use crate::span::Span;
 
 /// A line and a column of a text, both from 1. A column counts characters.
-#[derive(Clone, Copy, Debug, PartialEq, Eq)]
+#[derive(Clone, Copy, PartialEq, Eq)]
 pub struct Position {
     pub line: usize,
     pub column: usize,

@@ -5,7 +5,7 @@ use crate::span::Span;
 use std::alloc::{AllocError, Global};
 
 /// A part of a network's text that has keys of its own.
-#[derive(Clone, Copy, Debug, PartialEq, Eq)]
+#[derive(Clone, Copy, PartialEq, Eq)]
 pub enum Part {
     /// The text outside its blocks and links.
     Top,

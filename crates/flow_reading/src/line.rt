@@ -10,7 +10,7 @@ use itoa::Buffer;
 use memchr::memchr;
 
 /// The lines of a report that are still to be read.
-#[derive(Clone, Copy, Debug, Drop)]
+#[derive(Clone, Copy, Drop)]
 pub(crate) struct Lines<'a> {
     rest: &'a [u8],
     /// The number of the next line, from 1.

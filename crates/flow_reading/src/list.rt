@@ -5,14 +5,14 @@ ghost use Rattle.flow_reading.specs.Printed.{list_text};
 use crate::token::{Token, first_token};
 
 /// A list of values, as a piece of a report.
-#[derive(Clone, Copy, Debug, PartialEq, Eq)]
+#[derive(Clone, Copy, PartialEq, Eq)]
 pub struct PrintedList<'a> {
     text: &'a [u8],
     count: usize,
 }
 
 /// What a value is.
-#[derive(Clone, Copy, Debug, PartialEq, Eq)]
+#[derive(Clone, Copy, PartialEq, Eq)]
 pub enum ValueKind {
     /// An integer of 64 bits: digits, with `-` in front if it is negative.
     Int,
@@ -23,7 +23,7 @@ pub enum ValueKind {
 }
 
 /// A value, as a piece of a report.
-#[derive(Clone, Copy, Debug, PartialEq, Eq)]
+#[derive(Clone, Copy, PartialEq, Eq)]
 pub struct PrintedValue<'a> {
     pub kind: ValueKind,
     /// What is printed of the value, with quotes or brackets.
@@ -31,7 +31,7 @@ pub struct PrintedValue<'a> {
 }
 
 /// The values of a list, in order.
-#[derive(Clone, Copy, Debug, Drop)]
+#[derive(Clone, Copy, Drop)]
 pub struct PrintedValues<'a> {
     rest: &'a [u8],
 }

@@ -14,7 +14,7 @@ use std::alloc::Global;
 const LONGEST_NAME: usize = 64;
 
 /// How a block ended.
-#[derive(Clone, Copy, Debug, PartialEq, Eq)]
+#[derive(Clone, Copy, PartialEq, Eq)]
 pub enum State {
     /// It would take more.
     Open,
@@ -26,7 +26,7 @@ pub enum State {
 }
 
 /// How a run ended.
-#[derive(Clone, Copy, Debug, PartialEq, Eq)]
+#[derive(Clone, Copy, PartialEq, Eq)]
 pub enum Settled {
     /// Nothing could move any more.
     Quiet,
@@ -35,7 +35,7 @@ pub enum Settled {
 }
 
 /// What a block took at a port.
-#[derive(Clone, Copy, Debug, PartialEq, Eq)]
+#[derive(Clone, Copy, PartialEq, Eq)]
 pub struct PortReport<'a> {
     pub taken: PrintedList<'a>,
     /// What it took there and is not done with.
@@ -43,7 +43,7 @@ pub struct PortReport<'a> {
 }
 
 /// What a block gave over a link.
-#[derive(Clone, Copy, Debug, PartialEq, Eq)]
+#[derive(Clone, Copy, PartialEq, Eq)]
 pub struct LinkReport<'a> {
     /// The number of the link in its network.
     pub number: u32,
@@ -51,7 +51,7 @@ pub struct LinkReport<'a> {
 }
 
 /// What a block keeps at the end.
-#[derive(Clone, Copy, Debug, PartialEq, Eq)]
+#[derive(Clone, Copy, PartialEq, Eq)]
 pub enum Kept<'a> {
     /// The results of an action.
     Record(PrintedList<'a>),
@@ -60,7 +60,7 @@ pub enum Kept<'a> {
 }
 
 /// What a report says of a block.
-#[derive(Debug, Drop)]
+#[derive(Drop)]
 pub struct BlockReport<'a> {
     pub name: &'a str,
     pub state: State,
@@ -76,7 +76,7 @@ pub struct BlockReport<'a> {
 }
 
 /// The report of a run.
-#[derive(Debug, Drop)]
+#[derive(Drop)]
 pub struct Report<'a> {
     /// The blocks in the order of their network.
     pub blocks: Vec<BlockReport<'a>>,

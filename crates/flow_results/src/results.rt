@@ -7,7 +7,7 @@ use std::alloc::Global;
 use std::io::Write;
 
 /// How results are written.
-#[derive(Clone, Copy, Debug, PartialEq, Eq)]
+#[derive(Clone, Copy, PartialEq, Eq)]
 pub enum ResultsForm {
     /// A row for each value: the name of its block, and the value, or the items of a row, each in a column.
     Csv,

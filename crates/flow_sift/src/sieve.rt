@@ -10,7 +10,7 @@ use std::alloc::Global;
 use std::io::Write;
 
 /// How many records went which way.
-#[derive(Clone, Copy, Debug, Default, PartialEq, Eq)]
+#[derive(Clone, Copy, Default, PartialEq, Eq)]
 pub struct Sifted {
     pub passed: u64,
     pub set_aside: u64,

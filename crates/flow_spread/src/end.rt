@@ -10,7 +10,7 @@ use flow_outlet::{LinkRule, OutEnd};
 use flow_value::Value;
 
 /// The block's end of a link, and how the element stands there.
-#[derive(Debug, Drop)]
+#[derive(Drop)]
 pub struct CopyEnd {
     /// The end of the link.
     pub link: OutEnd,

@@ -18,7 +18,7 @@ use std::alloc::{AllocError, Global};
 use std::marker::Model;
 
 /// Ends of links. Contracts see the list of them.
-#[derive(Debug, Drop)]
+#[derive(Drop)]
 pub(crate) struct Ends {
     ends: Vec<CopyEnd>,
     // how many owe, at how many something is under way, how many of these only wait, and how many are busy

@@ -8,7 +8,7 @@ use std::marker::Model;
 /// A copy of a value for the account of the block that gives it, and a parcel for its target.
 ///
 /// Contracts see the value.
-#[derive(Debug, Drop)]
+#[derive(Drop)]
 pub struct Share {
     own: Value,
     parcel: Parcel,

@@ -28,7 +28,7 @@ use std::marker::Model;
 /// One element at a time, of which each link is given a copy of its own, and the block's ends of the links.
 ///
 /// Contracts see a `SpreadState`.
-#[derive(Debug, Drop)]
+#[derive(Drop)]
 pub struct Spread {
     ends: Ends,
     element: Option<Value>,

@@ -7,7 +7,7 @@ use std::io;
 use std::io::{ErrorKind, Write};
 
 /// Why a command ends before its work is done.
-#[derive(Debug, Drop)]
+#[derive(Drop)]
 pub struct Stop {
     status: u8,
     why: anyhow::Error,
