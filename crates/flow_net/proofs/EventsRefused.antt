@@ -9,10 +9,11 @@ use Rattle.flow_core.specs.Events.{NetEvent, Enabled, HasIds, MayHappen}
 use Rattle.flow_core.specs.State.{NetState}
 use Rattle.flow_outlet.specs.declared.fault.OutletFault.{OutletFault}
 use Rattle.flow_outlet.specs.declared.fault.OutletFault.TheVariants as outlet
-use Rattle.flow_net.specs.Events.{IsRefused}
+use Rattle.flow_net.specs.Events.{IsOfJob, IsRefused, net_event}
 use Rattle.flow_net.specs.OwnJobs.{IsOwnJob}
 use Rattle.flow_net.specs.There.{IsWhyNot}
 use Rattle.flow_net.specs.Told.{fault_of}
+use Rattle.flow_net.specs.declared.event.Event.{Event}
 use Rattle.flow_net.specs.declared.event.Event.TheVariants.{End}
 use Rattle.flow_net.specs.declared.fault.NetFault.{NetFault}
 use Rattle.flow_net.specs.declared.fault.NetFault.TheVariants.{NotEnabled, Ids, Memory}
@@ -38,8 +39,14 @@ module _ {W : Type 0} (layout : Layout W) (meaning : ℕ → Value → Result (L
   }
   enabled_refused (Err Memory) enabled used_up memory never = memory refl
 
--- a result is refused where it is not of the block's own job, and else for ids or for memory
 module _ {W : Type 0} (equal : W → W → Bool) (layout : Layout W) (meaning : ℕ → Value → Result (List Value) ℕ) (net : NetState) where
+  -- an event that is no job's is refused for what the network's state tells
+  pub refused_so : {w : _} {e : _} (event : Event W w e) (fault : NetFault) → (IsOfJob event → ⊥)
+      → IsWhyNot layout meaning net (net_event event) fault → IsRefused equal layout meaning net event fault
+  refused_so (End b done) fault driven why = absurd (driven tt)
+  refused_so _ fault driven why = why
+
+  -- a result is refused where it is not of the block's own job, and else for ids or for memory
   pub result_refused : {w : _} {e : _} (b : ℕ) (done : JobResult W w e) (fault : NetFault)
       → (fault ≡ NotEnabled → IsOwnJob equal layout net b (job_in done) → ⊥)
       → (fault ≢ NotEnabled → IsOwnJob equal layout net b (job_in done))

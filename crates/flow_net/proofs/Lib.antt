@@ -3,6 +3,7 @@ pub mod EventsAnswer
 pub mod EventsCount
 pub mod EventsDone
 pub mod EventsRefused
+pub mod EventsTaken
 pub mod ExitsGoOn
 pub mod FindersTell
 pub mod IdsLeft

@@ -13,5 +13,6 @@ pub mod Serves
 pub mod Settles
 pub mod Sights
 pub mod States
+pub mod Taken
 pub mod There
 pub mod Told

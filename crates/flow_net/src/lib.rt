@@ -20,6 +20,7 @@ mod parts;
 mod pass;
 mod serve;
 mod settled;
+mod step;
 
 pub use entry::NetEntry;
 pub use event::{Event, Stepped};

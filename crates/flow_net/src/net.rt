@@ -1,14 +1,12 @@
 //! A network with one owner: what is posted goes from block to block until nothing can move.
-ghost use Rattle.std.specs.Prelude.{◌≡◌, ◌<◌, ◌++◌, length, IfSome, None};
+ghost use Rattle.std.specs.Prelude.{◌≡◌, ◌<◌, ◌++◌, length};
 ghost use Rattle.flow_link.specs.Planned.{layout_of};
 ghost use Rattle.flow_block.specs.Node.{left_in};
 ghost use Rattle.flow_block.specs.Peeks.{is_complete};
-ghost use Rattle.flow_net.specs.Dues.{event_of};
 ghost use Rattle.flow_net.specs.Engine.{InOrder};
-ghost use Rattle.flow_net.specs.Events.{net_event, IsOfJob};
+ghost use Rattle.flow_net.specs.Events.{net_event};
 ghost use Rattle.flow_net.specs.States.{state_told};
 
-use crate::due::Due;
 use crate::engine::Engine;
 use crate::event::{Event, Stepped};
 use crate::fault::NetFault;
@@ -41,7 +39,7 @@ impl<W: Runs> Net<W> {
     ghost use Rattle.flow_core.specs.Inputs.{InputsStay, none_posted};
     ghost use Rattle.flow_core.specs.State.{line_at};
     ghost use Rattle.flow_net.specs.Events.{Answers, IsOfOwnJob};
-    ghost use Rattle.flow_net.specs.Net.{NetGoesOn, NetIsStill, NetMayHappen, NetNeedsId, NetRefuses, NetSettles, NetWhyNot};
+    ghost use Rattle.flow_net.specs.Net.{NetGoesOn, NetIsStill, NetMayHappen, NetNeedsId, NetRefuses, NetSettles};
     ghost use Rattle.flow_net.specs.Net.{layout_in, net_after, parts_of, run_of};
     ghost use Rattle.flow_net.specs.States.{state_by};
     ghost use Rattle.flow_net.specs.declared.fault.NetFault.TheVariants.{NotEnabled, Ids};
@@ -86,70 +84,7 @@ impl<W: Runs> Net<W> {
         ensures same_inputs { none_posted (parts_of self.old) ≡ true → (run_of W.meaning self.new).trace.inputs ≡
             (run_of W.meaning self.old).trace.inputs }
     {
-        match due_of(&event) {
-            Some(due) => self.step(alloc, due, event),
-            None => self.step_job(alloc, event),
-        }
-    }
-
-    /// Does this event, by which a job begins or its result comes back.
-    fn step_job(
-        &mut self,
-        alloc: Global,
-        event: Event<W>,
-    ) -> Result<Stepped<W>, (Event<W>, NetFault)>
-        requires job { IsOfJob event }
-        ensures same_plan { layout_in self.new ≡ layout_in self.old }
-        ensures enabled { OnOk result (NetMayHappen W.meaning self.old (net_event event)) }
-        ensures moved { OnOk result (parts_of self.new ≡ net_after W.meaning self.old (net_event event)) }
-        ensures answers { IfOk result (Answers W.eq (layout_in self.old) (parts_of self.old) event) }
-        ensures own { OnOk result (IsOfOwnJob W.eq (layout_in self.old) (parts_of self.old) event) }
-        ensures kept { OnErr result (parts_of self.new ≡ parts_of self.old) }
-        ensures why { IfErr result (λ refused. NetRefuses W.eq W.meaning self.old event refused.1) }
-        ensures back { IfErr result (λ refused. refused.0 ≡ event) }
-        ensures lawful { Lawful (run_of W.meaning self.new) }
-        ensures inputs_stay { InputsStay (parts_of self.old) (parts_of self.new) }
-        ensures same_inputs { none_posted (parts_of self.old) ≡ true → (run_of W.meaning self.new).trace.inputs ≡
-            (run_of W.meaning self.old).trace.inputs }
-    {
-        match event {
-            Event::Begin(number) => match self.engine.begin_job(alloc, number) {
-                Ok(job) => Ok(Stepped::Began(job)),
-                Err(fault) => Err((Event::Begin(number), fault)),
-            },
-            Event::End(number, done) => match self.engine.end_job(number, done) {
-                Ok(()) => Ok(Stepped::Moved),
-                Err((done, fault)) => Err((Event::End(number, done), fault)),
-            },
-            _ => unreachable!(),
-        }
-    }
-
-    /// Does this event, which is no job's.
-    fn step(
-        &mut self,
-        alloc: Global,
-        due: Due,
-        event: Event<W>,
-    ) -> Result<Stepped<W>, (Event<W>, NetFault)>
-        requires same { net_event event ≡ event_of due }
-        requires driven { IsOfJob event → ⊥ }
-        ensures same_plan { layout_in self.new ≡ layout_in self.old }
-        ensures enabled { OnOk result (NetMayHappen W.meaning self.old (event_of due)) }
-        ensures moved { OnOk result (parts_of self.new ≡ net_after W.meaning self.old (event_of due)) }
-        ensures answers { IfOk result (λ stepped. stepped ≡ Stepped.Moved) }
-        ensures kept { OnErr result (parts_of self.new ≡ parts_of self.old) }
-        ensures why { IfErr result (λ refused. NetWhyNot W.meaning self.old (event_of due) refused.1) }
-        ensures back { IfErr result (λ refused. refused.0 ≡ event) }
-        ensures lawful { Lawful (run_of W.meaning self.new) }
-        ensures inputs_stay { InputsStay (parts_of self.old) (parts_of self.new) }
-        ensures same_inputs { none_posted (parts_of self.old) ≡ true → (run_of W.meaning self.new).trace.inputs ≡
-            (run_of W.meaning self.old).trace.inputs }
-    {
-        match self.engine.event(alloc, &due) {
-            Ok(()) => Ok(Stepped::Moved),
-            Err(fault) => Err((event, fault)),
-        }
+        self.engine.take(alloc, event)
     }
 
     /// Whether nothing may happen any more.
@@ -276,22 +211,6 @@ impl<W: Work> Net<W> {
             (run_of W.meaning self.old).trace.inputs }
     {
         self.engine.settle_with(rt, alloc, workers, limit)
-    }
-}
-
-/// The event as a driver finds it; none where a job begins or its result comes back.
-fn due_of<W: Runs>(event: &Event<W>) -> Option<Due>
-    ensures same { IfSome result (λ due. net_event event.now ≡ event_of due) }
-    ensures driven { IfSome result (λ due. IsOfJob event.now → ⊥) }
-    ensures job { result ≡ None → IsOfJob event.now }
-{
-    match *event {
-        Event::Begin(_) | Event::End(_, _) => None,
-        Event::Link(id, next) => Some(Due::Link(id, next)),
-        Event::Make(number) => Some(Due::Make(number)),
-        Event::Complete(number, port) => Some(Due::Complete(number, port)),
-        Event::Fault(number) => Some(Due::Fault(number)),
-        Event::Done(number) => Some(Due::Done(number)),
     }
 }
 
