@@ -83,12 +83,12 @@ fn fresh_frame<W>(alloc: Global, plan: &Plan<W>, inputs: usize) -> Result<Frame,
     ensures no_inputs { IfOk result (λ frame. frame.inputs.items ≡ []) }
     ensures room { IfOk result (λ frame. inputs ≤ vec_capacity frame.inputs) }
 {
+    let hides_turns = hides_turns(alloc, plan)?;
     let inputs = Vec::with_capacity(alloc, inputs)?;
     let nodes = nodes_of(alloc, plan)?;
     let exits = exits_of(alloc, plan)?;
     let lines = lines_of(alloc, plan.link_count() as usize)?;
     let routes = routes_of(alloc, plan)?;
-    let hides_turns = hides_turns(alloc, plan)?;
     let agenda = Agenda::new(alloc, plan.link_count(), plan.block_count(), hides_turns)?;
     Ok(Frame {
         nodes,

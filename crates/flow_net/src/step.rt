@@ -24,7 +24,10 @@ impl<W: Runs> Engine<W> {
         ensures { Takes W.eq W.meaning self.old self.new event result }
     {
         match due_of(&event) {
-            Some(due) => self.step(alloc, due, event),
+            Some(due) => match self.event(alloc, &due) {
+                Ok(()) => Ok(Stepped::Moved),
+                Err(fault) => Err((event, fault)),
+            },
             None => self.step_job(alloc, event),
         }
     }
@@ -49,24 +52,6 @@ impl<W: Runs> Engine<W> {
                 Err((done, fault)) => Err((Event::End(number, done), fault)),
             },
             _ => unreachable!(),
-        }
-    }
-
-    /// Does this event, which is no job's.
-    fn step(
-        &mut self,
-        alloc: Global,
-        due: Due,
-        event: Event<W>,
-    ) -> Result<Stepped<W>, (Event<W>, NetFault)>
-        requires kept { InOrder W.meaning self.old }
-        requires same { net_event event ≡ event_of due }
-        requires driven { IsOfJob event → ⊥ }
-        ensures { Takes W.eq W.meaning self.old self.new event result }
-    {
-        match self.event(alloc, &due) {
-            Ok(()) => Ok(Stepped::Moved),
-            Err(fault) => Err((event, fault)),
         }
     }
 }
