@@ -1,5 +1,6 @@
 -- Why an event of the program is refused, by why its event of the network's state is not done.
-use Rattle.std.proofs.Common.{◌≡◌, ◌≢◌, ℕ, Bool, List, Result, Ok, Err, IfErr, refl}
+use Rattle.std.proofs.Common.{◌≡◌, ◌≢◌, ℕ, Bool, List, Result, Ok, Err, IfErr, refl, subst, sym}
+use Rattle.std.specs.Result.{IsErrAnd}
 use Rattle.flow_value.specs.declared.value.Value.{Value}
 use Rattle.flow_link.specs.Layout.{Layout}
 use Rattle.flow_exec.specs.Jobs.{ticket_in}
@@ -38,6 +39,12 @@ module _ {W : Type 0} (layout : Layout W) (meaning : ℕ → Value → Result (L
     none_left = λ ids. used_up refl (record { enabled = enabled; ids = ids });
   }
   enabled_refused (Err Memory) enabled used_up memory never = memory refl
+
+  -- one that may happen, where only memory can be out
+  pub memory_refused : {T : Type 0} (result : Result T NetFault) → IsErrAnd result (λ fault. fault ≡ Memory)
+      → MayHappen layout meaning event net → IfErr result (IsWhyNot layout meaning net event)
+  memory_refused (Ok done) is may = tt
+  memory_refused (Err fault) is may = subst (λ (told : NetFault). IsWhyNot layout meaning net event told) (sym is) may
 
 module _ {W : Type 0} (equal : W → W → Bool) (layout : Layout W) (meaning : ℕ → Value → Result (List Value) ℕ) (net : NetState) where
   -- an event that is no job's is refused for what the network's state tells

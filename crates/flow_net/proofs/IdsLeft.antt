@@ -123,7 +123,7 @@ module _ {W : Type 0} (layout : Layout W) (meaning : ℕ → Value → Result (L
   id_prop _ = hlevel
 
   -- no target's move needs one
-  id_for_target : (next : Move) → is_of_source next ≡ false → IdIsLeft next
+  pub id_for_target : (next : Move) → is_of_source next ≡ false → IdIsLeft next
   id_for_target (move.Offer id) e = absurd (cc)
   id_for_target _ e = tt
 

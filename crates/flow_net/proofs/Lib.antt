@@ -1,11 +1,14 @@
+pub mod BlocksTell
 pub mod EntriesGoOn
 pub mod EventsAnswer
 pub mod EventsCount
 pub mod EventsDone
+pub mod EventsNamed
 pub mod EventsRefused
 pub mod EventsTaken
 pub mod ExitsGoOn
 pub mod FindersTell
+pub mod FirstThere
 pub mod IdsLeft
 pub mod JobsBegin
 pub mod JobsReturn

@@ -1,5 +1,6 @@
-use Rattle.std.proofs.Common.{rules, ◌≡◌, arith, refl}
+use Rattle.std.proofs.Common.{rules, ◌≡◌, ◌<◌, length, arith, refl, subst, sym}
 use Rattle.flow_link.specs.declared.phase.Move.TheVariants.{Offer}
+use Rattle.flow_link.specs.declared.plan.Plan.{Plan}
 use Rattle.flow_link.specs.Planned.{layout_of}
 use Rattle.flow_core.specs.Events.{NetEvent}
 use Rattle.flow_exec.specs.Works.{works_of}
@@ -9,6 +10,7 @@ use Rattle.flow_net.proofs.EventsCount.{one_more_event}
 use Rattle.flow_net.proofs.KeptOn.{kept_by_plan}
 use Rattle.flow_net.proofs.PassesCount.{found_due}
 use Rattle.flow_net.proofs.RunsGoOn.{happened_by_plan}
+use Rattle.flow_net.proofs.BlocksTell.{enabled_as, node_there}
 use Rattle.flow_net.proofs.engine.Engine.advance.Goals as goal
 
 pub pass-requires-clause-due : goal.pass-requires-clause-due
@@ -54,3 +56,29 @@ returns-then-branch-clause-happened g c =
     happened_by_plan g.W.Runs.meaning start.plan mid.plan c.work_at_once.ensures.same_plan 2 2 start.parts mid.parts
     c.go_on_working.new.self.parts (omega arith) (c.in_ok-work_at_once.ensures.worked c.if-branch.true)
     c.go_on_working.result c.go_on_working.ensures.happened
+
+pub node-requires : goal.node-requires
+node-requires g c =
+    let net = c.args.self.now in
+    node_there g.W.Runs.meaning net.plan net.parts c.requires.kept c.in-Begin.number
+    (enabled_as (layout_of net.plan) net.parts c.in-Begin.is c.requires.due.enabled).there
+
+pub make-requires-clause-enabled : goal.make-requires-clause-enabled
+make-requires-clause-enabled g c =
+    enabled_as (layout_of c.args.self.now.plan) c.args.self.now.parts c.in-Make.is c.requires.due.enabled
+
+pub work_at_once-requires-clause-enabled : goal.work_at_once-requires-clause-enabled
+work_at_once-requires-clause-enabled g c =
+    enabled_as (layout_of c.args.self.now.plan) c.args.self.now.parts c.in-Begin.is c.requires.due.enabled
+
+pub work_run-requires-clause-known : goal.work_run-requires-clause-known
+work_run-requires-clause-known g c =
+    let net = c.args.self.now in
+    subst (λ (plan : Plan _). c.in-Make.number < length (layout_of plan).blocks) (sym c.make.ensures.same_plan)
+    (enabled_as (layout_of net.plan) net.parts c.in-Make.is c.requires.due.enabled).there
+
+pub go_on_working-requires-clause-known : goal.go_on_working-requires-clause-known
+go_on_working-requires-clause-known g c =
+    let net = c.args.self.now in
+    subst (λ (plan : Plan _). c.in-Begin.number < length (layout_of plan).blocks) (sym c.work_at_once.ensures.same_plan)
+    (enabled_as (layout_of net.plan) net.parts c.in-Begin.is c.requires.due.enabled).there

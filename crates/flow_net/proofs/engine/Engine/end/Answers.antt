@@ -8,6 +8,7 @@ use Rattle.flow_exec.specs.Works.{works_of}
 use Rattle.flow_net.specs.declared.due.Due.{Due}
 use Rattle.flow_net.specs.Dues.{event_of}
 use Rattle.flow_net.proofs.EventsDone.{faulted_is_after}
+use Rattle.flow_net.proofs.BlocksTell.{enabled_as, node_there}
 use Rattle.flow_net.proofs.engine.Engine.end.Goals as goal
 
 pub returns-in_ok-complete-in-Complete-clause-done : goal.returns-in_ok-complete-in-Complete-clause-done
@@ -34,3 +35,32 @@ returns-in_ok-finish-in-Done-clause-done g c =
     let meaning = works_of g.W.Runs.meaning layout in
     subst (λ (e : Due). c.finish.new.self ≡ after layout meaning (event_of e) c.args.self.now.parts) (sym c.in-Done.is)
     (c.in_ok-finish-in-Done.ensures.done (block_makes layout meaning c.in-Done.number))
+
+pub node-requires : goal.node-requires
+node-requires g c =
+    let now = c.args.self.now in
+    node_there g.W.Runs.meaning now.plan now.parts c.requires.kept c.in-Fault.number
+    (enabled_as (layout_of now.plan) now.parts c.in-Fault.is c.requires.enabled).there
+
+pub complete-requires-clause-there : goal.complete-requires-clause-there
+complete-requires-clause-there g c =
+    let now = c.args.self.now in
+    node_there g.W.Runs.meaning now.plan now.parts c.requires.kept c.in-Complete.number
+    (enabled_as (layout_of now.plan) now.parts c.in-Complete.is c.requires.enabled).there
+
+pub complete-requires-clause-port : goal.complete-requires-clause-port
+complete-requires-clause-port g c =
+    let now = c.args.self.now in
+    (enabled_as (layout_of now.plan) now.parts c.in-Complete.is c.requires.enabled).port
+
+pub fault-requires : goal.fault-requires
+fault-requires g c =
+    let now = c.args.self.now in
+    node_there g.W.Runs.meaning now.plan now.parts c.requires.kept c.in-Fault.number
+    (enabled_as (layout_of now.plan) now.parts c.in-Fault.is c.requires.enabled).there
+
+pub finish-requires : goal.finish-requires
+finish-requires g c =
+    let now = c.args.self.now in
+    node_there g.W.Runs.meaning now.plan now.parts c.requires.kept c.in-Done.number
+    (enabled_as (layout_of now.plan) now.parts c.in-Done.is c.requires.enabled).there

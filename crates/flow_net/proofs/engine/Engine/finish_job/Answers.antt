@@ -6,6 +6,7 @@ use Rattle.flow_core.specs.State.{node_at}
 use Rattle.flow_exec.specs.Works.{works_of}
 use Rattle.flow_moves.proofs.MerelyKept.{blocks_planned}
 use Rattle.flow_net.proofs.EventsDone.{ended_is_after, ended_may, unended_may_not, ids_told}
+use Rattle.flow_net.proofs.BlocksTell.{node_there}
 use Rattle.flow_net.proofs.engine.Engine.finish_job.Goals as goal
 
 pub finish_job-requires-clause-alone : goal.finish_job-requires-clause-alone
@@ -62,3 +63,7 @@ returns-in_err-finish_job-clause-used_up g c is =
     unended_may_not g.W.Runs.meaning (layout_of old.plan) old.parts c.requires.kept c.args.number
     c.requires.enabled.there _ c.block.result.now c.block.ensures c.as_ref-work.ensures.value c.args.ticket
     (c.in_err-finish_job.ensures.used_up (ap Err told))
+
+pub finish_job-requires-clause-there : goal.finish_job-requires-clause-there
+finish_job-requires-clause-there g c =
+    node_there g.W.Runs.meaning c.args.self.now.plan c.args.self.now.parts c.requires.kept c.args.number c.requires.enabled.there

@@ -6,6 +6,7 @@ use Rattle.flow_exec.specs.Jobs.{ticket_in}
 use Rattle.flow_exec.specs.Works.{works_of}
 use Rattle.flow_moves.proofs.MerelyKept.{blocks_planned}
 use Rattle.flow_value.specs.Same.{same_value-Decides}
+use Rattle.flow_net.proofs.BlocksTell.{node_there}
 use Rattle.flow_net.proofs.engine.Engine.is_out.Goals as goal
 
 pub job_message-requires-clause-ports : goal.job_message-requires-clause-ports
@@ -40,3 +41,7 @@ returns-then-eq-clause-only g c own =
     ∙ ap (λ (block : BlockState). job_message (ticket_in c.args.job.now) block) block_is
     ∙ sym own.message ∙ sym c.message.ensures in
     c.eq-then-eq.ensures ∙ (same_value-Decides c.job_message.result.now c.message.result.now).1 same
+
+pub node-requires : goal.node-requires
+node-requires g c =
+    node_there g.W.Runs.meaning c.args.self.now.plan c.args.self.now.parts c.requires.kept c.args.number c.requires.known

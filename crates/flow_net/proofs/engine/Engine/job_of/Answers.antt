@@ -4,6 +4,7 @@ use Rattle.flow_block.specs.Block.{BlockState}
 use Rattle.flow_block.specs.Node.{NodeState}
 use Rattle.flow_exec.specs.Works.{works_of}
 use Rattle.flow_moves.proofs.MerelyKept.{blocks_planned}
+use Rattle.flow_net.proofs.BlocksTell.{node_there}
 use Rattle.flow_net.proofs.engine.Engine.job_of.Goals as goal
 
 pub begun_message-requires-clause-ports : goal.begun_message-requires-clause-ports
@@ -13,3 +14,7 @@ begun_message-requires-clause-ports g c =
     c.requires.kept c.args.number c.requires.enabled.there in
     let block_is = c.block-block.ensures ∙ ap (λ (node : NodeState). node.block) c.node.ensures in
     subst (λ (block : BlockState). 0 < length block.ports) (sym block_is) planned.some_port
+
+pub node-requires : goal.node-requires
+node-requires g c =
+    node_there g.W.Runs.meaning c.args.self.now.plan c.args.self.now.parts c.requires.kept c.args.number c.requires.enabled.there

@@ -8,6 +8,7 @@ use Rattle.flow_core.specs.State.{node_at}
 use Rattle.flow_exec.specs.Works.{works_of}
 use Rattle.flow_moves.proofs.MerelyKept.{blocks_planned}
 use Rattle.flow_net.proofs.EventsDone.{unmade_may_not, ids_told, memory_told}
+use Rattle.flow_net.proofs.BlocksTell.{node_there}
 use Rattle.flow_net.proofs.engine.Engine.make.Goals as goal
 
 pub make-requires-clause-alone : goal.make-requires-clause-alone
@@ -63,3 +64,10 @@ returns-in_err-make-clause-memory g c is =
       ids = c.in_err-make.ensures.memory (ap Err told)
           (block_makes layout (works_of g.W.Runs.meaning layout) c.args.number);
     }
+
+pub make-requires-clause-there : goal.make-requires-clause-there
+make-requires-clause-there g c =
+    node_there g.W.Runs.meaning c.args.self.now.plan c.args.self.now.parts c.requires.kept c.args.number c.requires.enabled.there
+
+pub make-requires-clause-waits : goal.make-requires-clause-waits
+make-requires-clause-waits g c = c.requires.enabled.would

@@ -9,6 +9,7 @@ use Rattle.flow_moves.proofs.MerelyKept.{links_there, moves_ready}
 use Rattle.flow_moves.proofs.PlansRun.{plan_runs}
 use Rattle.flow_net.proofs.EventsDone.{moved_is_after}
 use Rattle.flow_net.proofs.FindersTell.{route_there, route_at}
+use Rattle.flow_net.proofs.BlocksTell.{line_there}
 use Rattle.flow_net.proofs.engine.Engine.move_link.Goals as goal
 
 pub index-requires : goal.index-requires
@@ -45,3 +46,7 @@ returns-clause-done g c =
     ap (λ (phase : Phase). phase_after phase c.args.next.now) (sym c.phase.ensures) ∙ sym c.step_of.ensures ∙ c.in-Some.is in
     moved_is_after layout (works_of g.W.Runs.meaning layout) old.parts c.move_along.new.self c.args.id c.args.next.now
     c.in-Some.phase c.index.result.now way leads c.in_ok-move_along.ensures.done
+
+pub phase-requires : goal.phase-requires
+phase-requires g c =
+    line_there g.W.Runs.meaning c.args.self.now.plan c.args.self.now.parts c.requires.kept c.args.id c.requires.due.enabled.there

@@ -7,6 +7,7 @@ use Rattle.flow_block.specs.Peeks.{may_complete}
 use Rattle.flow_core.specs.State.{node_at}
 use Rattle.flow_exec.specs.Works.{works_of}
 use Rattle.flow_net.proofs.FindersTell.{few_ports, one_more}
+use Rattle.flow_net.proofs.BlocksTell.{node_there}
 use Rattle.flow_net.proofs.engine.Engine.port_to_complete.Goals as goal
 
 pub overflow_cast-result : goal.overflow_cast-result
@@ -25,3 +26,7 @@ loop-port-preserved g c =
     c.loop-port.invariant
     (subst (λ (block : BlockState). may_complete c.loop-port.port block ≡ false) block_is
     (sym c.may_complete.ensures ∙ c.if-may_complete.false))
+
+pub node-requires : goal.node-requires
+node-requires g c =
+    node_there g.W.Runs.meaning c.args.self.now.plan c.args.self.now.parts c.requires.kept c.args.number c.requires.known

@@ -4,6 +4,7 @@ use Rattle.flow_moves.proofs.WorksAtOnce.{begin_works}
 use Rattle.flow_link.specs.Planned.{layout_of}
 use Rattle.flow_exec.specs.Works.{works_of}
 use Rattle.flow_net.proofs.EventsDone.{worked_so}
+use Rattle.flow_net.proofs.BlocksTell.{node_there}
 use Rattle.flow_net.proofs.engine.Engine.work.Goals as goal
 
 pub work-requires-clause-alone : goal.work-requires-clause-alone
@@ -20,3 +21,10 @@ returns-clause-happened g c =
     worked_so g.W.Runs.meaning (layout_of old.plan) old.parts c.requires.kept c.args.number c.requires.enabled.there _
     c.block.result.now c.block.ensures c.as_ref-work.ensures.value c.requires.enabled c.requires.idle c.work.new.self
     c.in_ok-work.ensures.done c.in_ok-work.ensures.ids
+
+pub work-requires-clause-there : goal.work-requires-clause-there
+work-requires-clause-there g c =
+    node_there g.W.Runs.meaning c.args.self.now.plan c.args.self.now.parts c.requires.kept c.args.number c.requires.enabled.there
+
+pub work-requires-clause-waits : goal.work-requires-clause-waits
+work-requires-clause-waits g c = c.requires.enabled.would
