@@ -46,6 +46,16 @@ module _ {W : Type 0} (layout : Layout W) (meaning : ℕ → Value → Result (L
       let one : suc (first + more) ≡ first + suc more = omega arith in
       subst (λ (n : ℕ). Happened layout meaning n old new) one (last, (happened_on first more old mid last before then_on, leads))
 
+-- so many of the limit have been done, and what came then changed nothing
+pub goes_on_so_far : {W : Type 0} (layout : Layout W) (meaning : ℕ → Value → Result (List Value) ℕ) (limit rest : ℕ)
+    (start before new : NetState) → rest ≤ limit → Happened layout meaning (limit - rest) start before → new ≡ before
+    → GoesOn layout meaning limit start new
+goes_on_so_far layout meaning limit rest start before new small happened same = record {
+  count = limit - rest;
+  within = omega (arith, small);
+  happened = subst (λ (net : NetState). Happened layout meaning (limit - rest) start net) (sym same) happened;
+}
+
 -- one round of a run: an event is found, which changes nothing, and so many events happen
 module _ {W : Type 0} (meaning : W → Value → Result (List Value) WorkFault) (first before found then_is : Plan W)
     (start old mid new : NetState) (limit rest count : ℕ) where

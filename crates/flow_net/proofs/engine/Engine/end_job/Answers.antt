@@ -16,6 +16,7 @@ use Rattle.flow_exec.specs.Works.{works_of}
 use Rattle.flow_exec.specs.declared.job.Job.{Job}
 use Rattle.flow_moves.proofs.MerelyKept.{blocks_planned}
 use Rattle.flow_net.specs.OwnJobs.{IsOwnJob}
+use Rattle.flow_net.proofs.BlocksTell.{node_there}
 use Rattle.flow_net.proofs.EventsRefused.{ids_of_outlet, not_ids_of_outlet}
 use Rattle.flow_net.proofs.JobsReturn.{returned_is_after, returned_may, returned_lacks, returned_has}
 use Rattle.flow_net.proofs.engine.Engine.end_job.Goals as goal
@@ -141,3 +142,10 @@ returns-in-Err-clause-ids g c is_memory =
     ticket_is c.end_job.ensures.ids)
     refused
     (λ same. not_ids_of_outlet c.in-Err.fault (sym c.from.ensures ∙ is_memory) (ap (λ (pair : Result (List Value) ℕ × OutletFault). pair.1) same))
+
+pub end_job-requires-clause-there : goal.end_job-requires-clause-there
+end_job-requires-clause-there g c =
+    let now = c.args.self.now in
+    let own = subst (λ (job : Job _). IsOwnJob g.W.PartialEq.eq (layout_of now.plan) now.parts c.args.number job)
+    c.job.ensures (c.is_own_job.ensures.0 c.if-not-is_own_job.false) in
+    node_there g.W.Runs.meaning now.plan now.parts c.requires.kept c.args.number own.there
