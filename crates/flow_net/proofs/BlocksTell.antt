@@ -1,5 +1,6 @@
 -- What a block's own answer tells of its network: whether an event of the block with a number is enabled.
-use Rattle.std.proofs.Common.{◌≡◌, ℕ, ◌<◌, ◌≤◌, ◌↔◌, IsTrue, Bool, true, ltb, ltb-true, List, length, Result, sym, ap, subst, ◌∙◌, arith}
+use Rattle.std.proofs.Common.{◌≡◌, ℕ, ◌<◌, ◌≤◌, ◌↔◌, IsTrue, Bool, true, ltb, ltb-true, List, length}
+use Rattle.std.proofs.Common.{Result, sym, ap, subst, ◌∙◌, arith}
 use Rattle.std.proofs.Math.Bridge.{le_prop}
 use Rattle.std.proofs.Math.Logic.{∥∥₁_elim}
 use Rattle.flow_value.specs.declared.value.Value.{Value}
@@ -72,17 +73,24 @@ module _ {W : Type 0} (layout : Layout W) (net : NetState) where
   -- no event of a block that is not there is enabled
   pub no_block_may : (b : ℕ) (test : Bool) {count : ℕ} → count ≡ length layout.blocks → count ≤ b
       → IsTrue (ltb b count) ↔ BlockMay layout net b test
-  no_block_may b test {count} is high =
-      (λ low. absurd (too_high b count high low), λ may. let there : b < length layout.blocks = may.there in absurd (omega (arith, is, high, there)))
+  no_block_may b test {count} is high = (
+    λ low. absurd (too_high b count high low),
+    λ may. let there : b < length layout.blocks = may.there in absurd (omega (arith, is, high, there)),
+  )
 
-  pub no_port_may : (b p : ℕ) {count : ℕ} → count ≡ length layout.blocks → count ≤ b → IsTrue (ltb b count) ↔ PortMay layout net b p
-  no_port_may b p {count} is high =
-      (λ low. absurd (too_high b count high low), λ may. let there : b < length layout.blocks = may.there in absurd (omega (arith, is, high, there)))
+  pub no_port_may : (b p : ℕ) {count : ℕ} → count ≡ length layout.blocks → count ≤ b
+      → IsTrue (ltb b count) ↔ PortMay layout net b p
+  no_port_may b p {count} is high = (
+    λ low. absurd (too_high b count high low),
+    λ may. let there : b < length layout.blocks = may.there in absurd (omega (arith, is, high, there)),
+  )
 
   pub no_link_may : (l : ℕ) (next : Move) {count : ℕ} → count ≡ length layout.links → count ≤ l
       → IsTrue (ltb l count) ↔ LinkMay layout net l next
-  no_link_may l next {count} is high =
-      (λ low. absurd (too_high l count high low), λ may. let there : l < length layout.links = may.there in absurd (omega (arith, is, high, there)))
+  no_link_may l next {count} is high = (
+    λ low. absurd (too_high l count high low),
+    λ may. let there : l < length layout.links = may.there in absurd (omega (arith, is, high, there)),
+  )
 
   -- the same of the event as a driver names it
   pub told_as : {event due : Due} {told : Bool} → event ≡ due → IsTrue told ↔ Enabled layout net (event_of due)

@@ -7,7 +7,7 @@ use Rattle.flow_net.specs.Engine.{MayHappenIn, parts_after}
 use Rattle.flow_net.specs.declared.due.Due.{Due}
 use Rattle.flow_net.specs.declared.engine.Engine.{Engine}
 use Rattle.flow_net.specs.declared.fault.NetFault.{NetFault}
-use Rattle.flow_net.specs.declared.fault.NetFault.TheVariants.{Ids, Memory}
+use Rattle.flow_net.specs.declared.fault.NetFault.TheVariants.{Ids}
 
 module _ {W : Type 0} (meaning : W → Value → Result (List Value) WorkFault) (old : Engine W) where
   pub done_as : (new : Engine W) {event due : Due} → event ≡ due → {T : Type 0} (result : Result T NetFault)

@@ -118,7 +118,8 @@ module _ {W : Type 0} {w : _} {e : _} (equal : W → W → Bool) (meaning : W �
           answers = tt;
           own = tt;
           kept = kept;
-          why = result_refused equal (layout_of old.plan) (works_of meaning (layout_of old.plan)) old.parts b done fault strange own
+          why = result_refused equal (layout_of old.plan) (works_of meaning (layout_of old.plan)) old.parts b done fault strange
+              own
               used_up ids;
           back = ap (λ (it : JobResult W w e). End b it) back;
         })

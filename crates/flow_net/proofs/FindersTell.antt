@@ -62,8 +62,8 @@ one_more P n all last k small =
 -- The two ends of a link
 
 -- a move whose message has an id needs no other
-pub id_of_move : {W : Type 0} (layout : Layout W) (meaning : ℕ → Value → Result (List Value) ℕ) (net : NetState) (l : ℕ) (next : Move)
-    → OffersAnId next → HasIds layout meaning (NetEvent.at_link l next) net
+pub id_of_move : {W : Type 0} (layout : Layout W) (meaning : ℕ → Value → Result (List Value) ℕ) (net : NetState) (l : ℕ)
+    (next : Move) → OffersAnId next → HasIds layout meaning (NetEvent.at_link l next) net
 id_of_move layout meaning net l (Offer id) has = has
 id_of_move layout meaning net l _ has = tt
 

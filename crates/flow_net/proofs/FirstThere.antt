@@ -1,5 +1,5 @@
 -- What stands first behind a place of a list stands at it; and where nothing does, nothing stands there.
-use Rattle.std.proofs.Common.{◌≡◌, ℕ, zero, suc, List, [], ◌∷◌, get_or, drop, Option, Some, None, refl}
+use Rattle.std.proofs.Common.{◌≡◌, ℕ, zero, suc, List, [], ◌∷◌, get_or, drop, Some, None, refl}
 use Rattle.flow_intake.specs.Calls.{first_of}
 
 module _ {A : Type 0} (d : A) where

@@ -11,5 +11,6 @@ returns-clause-done g c =
 
 pub begin-requires : goal.begin-requires
 begin-requires g c = record {
-  there = node_there g.W.Runs.meaning c.args.self.now.plan c.args.self.now.parts c.requires.kept c.args.number c.requires.enabled.there;
+  there = node_there g.W.Runs.meaning c.args.self.now.plan c.args.self.now.parts c.requires.kept c.args.number
+      c.requires.enabled.there;
 }

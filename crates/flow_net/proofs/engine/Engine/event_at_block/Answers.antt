@@ -11,7 +11,8 @@ returns-in_default-clause-none g c =
     nothing_where_open (node_at c.args.self.now.parts c.args.number).block
     (sym (tells (layout_of c.args.self.now.plan) c.args.self.now.parts c.args.number c.node.ensures c.block-block.ensures may_make
     c.may_make.ensures) ∙ c.if-may_make.false)
-    (sym (tells (layout_of c.args.self.now.plan) c.args.self.now.parts c.args.number c.node.ensures c.block-block.ensures may_begin
+    (sym (tells (layout_of c.args.self.now.plan) c.args.self.now.parts c.args.number c.node.ensures c.block-block.ensures
+    may_begin
     c.may_begin.ensures) ∙ c.if-may_begin.false)
     (search rules) c.end_of_block.result c.end_of_block.ensures.none
 

@@ -13,9 +13,11 @@ pub returns-in-Some : goal.returns-in-Some
 returns-in-Some g c =
     let found = rw c.in-Some.is at c.find_exit.ensures in
     c.has_enough.ensures
-    ∙ ap (has_enough c.args.waits) (sym (at_first fresh_exit c.args.self.now.parts.exits c.args.place c.in-Some.exit.now (sym found)))
+    ∙ ap (has_enough c.args.waits) (sym (at_first fresh_exit c.args.self.now.parts.exits c.args.place c.in-Some.exit.now
+    (sym found)))
 
 pub returns-in-None : goal.returns-in-None
 returns-in-None g c =
     let none = rw c.in-None.is at c.find_exit.ensures in
-    sym (ap (has_enough c.args.waits) (at_none fresh_exit c.args.self.now.parts.exits c.args.place (sym none)) ∙ none_enough c.args.waits)
+    sym (ap (has_enough c.args.waits) (at_none fresh_exit c.args.self.now.parts.exits c.args.place (sym none))
+    ∙ none_enough c.args.waits)

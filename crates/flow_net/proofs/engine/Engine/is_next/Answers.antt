@@ -2,7 +2,8 @@ use Rattle.std.proofs.Common.{rules, sym, ◌∙◌}
 use Rattle.flow_link.specs.Planned.{layout_of}
 use Rattle.flow_exec.specs.Works.{works_of}
 use Rattle.flow_net.proofs.IdsLeft.{id_for_target}
-use Rattle.flow_net.proofs.FindersTell.{id_of_move, source_there, target_there, source_told, target_told, lacking_told, found_same}
+use Rattle.flow_net.proofs.FindersTell.{id_of_move, source_there, target_there, source_told}
+use Rattle.flow_net.proofs.FindersTell.{target_told, lacking_told, found_same}
 use Rattle.flow_net.proofs.engine.Engine.is_next.Goals as goal
 
 pub next_of_target-requires : goal.next_of_target-requires
@@ -14,7 +15,8 @@ pub returns-then-not-is_of_source-clause-told : goal.returns-then-not-is_of_sour
 returns-then-not-is_of_source-clause-told g c =
     target_told g.W.Runs.meaning c.args.self.now.plan c.args.self.now.parts c.requires.kept c.args.id
     c.requires.known c.route-route.result.now c.route-route.ensures
-    c.next_of_target.result c.next_of_target.ensures c.args.next c.eq.result (sym c.is_of_source.ensures ∙ c.if-not-is_of_source.true)
+    c.next_of_target.result c.next_of_target.ensures c.args.next c.eq.result
+    (sym c.is_of_source.ensures ∙ c.if-not-is_of_source.true)
     (search rules) (search rules)
 
 pub lacks_id-requires : goal.lacks_id-requires

@@ -31,7 +31,8 @@ returns-then-number-count g c =
     let layout = layout_of c.args.self.now.plan in
     let net = c.args.self.now.parts in
     told_as layout net c.in-Make.is
-    (may_told layout net c.in-Make.number c.node.ensures c.block.ensures (below_count c.block_count-count.ensures c.if-number-count.true)
+    (may_told layout net c.in-Make.number c.node.ensures c.block.ensures
+    (below_count c.block_count-count.ensures c.if-number-count.true)
     may_make c.may_make.ensures)
 
 pub returns-then-number-count-2 : goal.returns-then-number-count-2
@@ -46,7 +47,8 @@ returns-then-number-count-3 g c =
     (below_count c.block_count-count.ensures c.if-number-count-3.true) (may_end c.in-End.ticket) c.may_end.ensures)
 
 pub returns-then-number-count-4 : goal.returns-then-number-count-4
-returns-then-number-count-4 g c = told_as (layout_of c.args.self.now.plan) c.args.self.now.parts c.in-Complete.is c.may_complete.ensures
+returns-then-number-count-4 g c =
+    told_as (layout_of c.args.self.now.plan) c.args.self.now.parts c.in-Complete.is c.may_complete.ensures
 
 pub returns-then-number-count-5 : goal.returns-then-number-count-5
 returns-then-number-count-5 g c =
@@ -86,7 +88,8 @@ returns-else-number-count-3 g c =
     let layout = layout_of c.args.self.now.plan in
     let net = c.args.self.now.parts in
     told_as layout net c.in-End.is
-    (no_block_may layout net c.in-End.number (may_end c.in-End.ticket (node_at net c.in-End.number).block) c.block_count-count.ensures
+    (no_block_may layout net c.in-End.number (may_end c.in-End.ticket (node_at net c.in-End.number).block)
+    c.block_count-count.ensures
     c.if-number-count-3.false)
 
 pub returns-else-number-count-4 : goal.returns-else-number-count-4
@@ -101,7 +104,8 @@ returns-else-number-count-5 g c =
     let layout = layout_of c.args.self.now.plan in
     let net = c.args.self.now.parts in
     told_as layout net c.in-Fault.is
-    (no_block_may layout net c.in-Fault.number (is_some (next_fault (node_at net c.in-Fault.number).block)) c.block_count-count.ensures
+    (no_block_may layout net c.in-Fault.number (is_some (next_fault (node_at net c.in-Fault.number).block))
+    c.block_count-count.ensures
     c.if-number-count-5.false)
 
 pub returns-else-number-count-6 : goal.returns-else-number-count-6

@@ -32,7 +32,8 @@ returns-in_err-count-clause-goes_on g c =
     let first = c.args.self.now in
     let before = c.loop-rest.self in
     let layout = layout_of first.plan in
-    goes_on_so_far layout (works_of g.W.Runs.meaning layout) c.args.limit c.loop-rest.rest first.parts before.parts c.carry_on.new.self.parts
+    goes_on_so_far layout (works_of g.W.Runs.meaning layout) c.args.limit c.loop-rest.rest first.parts before.parts
+    c.carry_on.new.self.parts
     c.loop-rest.invariant.2 c.loop-rest.invariant.3 c.in_err-count.ensures.kept
 
 pub returns-in_err-event-in-0-clause-goes_on : goal.returns-in_err-event-in-0-clause-goes_on
@@ -40,9 +41,11 @@ returns-in_err-event-in-0-clause-goes_on g c =
     let first = c.args.self.now in
     let before = c.loop-rest.self in
     let layout = layout_of first.plan in
-    let same = none_happened (layout_of before.plan) (works_of g.W.Runs.meaning (layout_of before.plan)) c.in_ok-count.count before.parts
+    let same = none_happened (layout_of before.plan) (works_of g.W.Runs.meaning (layout_of before.plan)) c.in_ok-count.count
+    before.parts
     c.carry_on.new.self.parts c.in-0.is c.in_ok-count.ensures.happened in
-    goes_on_so_far layout (works_of g.W.Runs.meaning layout) c.args.limit c.loop-rest.rest first.parts before.parts c.next_event.new.self.parts
+    goes_on_so_far layout (works_of g.W.Runs.meaning layout) c.args.limit c.loop-rest.rest first.parts before.parts
+    c.next_event.new.self.parts
     c.loop-rest.invariant.2 c.loop-rest.invariant.3 (c.next_event.ensures.same_parts ∙ same)
 
 pub returns-in_err-rest-in-Some-clause-goes_on : goal.returns-in_err-rest-in-Some-clause-goes_on
@@ -50,9 +53,11 @@ returns-in_err-rest-in-Some-clause-goes_on g c =
     let first = c.args.self.now in
     let before = c.loop-rest.self in
     let layout = layout_of first.plan in
-    let same = none_happened (layout_of before.plan) (works_of g.W.Runs.meaning (layout_of before.plan)) c.in_ok-count.count before.parts
+    let same = none_happened (layout_of before.plan) (works_of g.W.Runs.meaning (layout_of before.plan)) c.in_ok-count.count
+    before.parts
     c.carry_on.new.self.parts c.in-0.is c.in_ok-count.ensures.happened in
-    goes_on_so_far layout (works_of g.W.Runs.meaning layout) c.args.limit c.loop-rest.rest first.parts before.parts c.advance.new.self.parts
+    goes_on_so_far layout (works_of g.W.Runs.meaning layout) c.args.limit c.loop-rest.rest first.parts before.parts
+    c.advance.new.self.parts
     c.loop-rest.invariant.2 c.loop-rest.invariant.3 (c.in_err-rest-in-Some.ensures.kept ∙ c.next_event.ensures.same_parts ∙ same)
 
 pub returns-in-None-clause-goes_on : goal.returns-in-None-clause-goes_on
@@ -60,9 +65,11 @@ returns-in-None-clause-goes_on g c =
     let first = c.args.self.now in
     let before = c.loop-rest.self in
     let layout = layout_of first.plan in
-    let same = none_happened (layout_of before.plan) (works_of g.W.Runs.meaning (layout_of before.plan)) c.in_ok-count.count before.parts
+    let same = none_happened (layout_of before.plan) (works_of g.W.Runs.meaning (layout_of before.plan)) c.in_ok-count.count
+    before.parts
     c.carry_on.new.self.parts c.in-0.is c.in_ok-count.ensures.happened in
-    goes_on_so_far layout (works_of g.W.Runs.meaning layout) c.args.limit c.loop-rest.rest first.parts before.parts c.next_event.new.self.parts
+    goes_on_so_far layout (works_of g.W.Runs.meaning layout) c.args.limit c.loop-rest.rest first.parts before.parts
+    c.next_event.new.self.parts
     c.loop-rest.invariant.2 c.loop-rest.invariant.3 (c.next_event.ensures.same_parts ∙ same)
 
 pub returns-then-is_quiet-clause-goes_on : goal.returns-then-is_quiet-clause-goes_on

@@ -8,7 +8,8 @@ returns-in-Ok g c =
 
 pub returns-in-Err : goal.returns-in-Err
 returns-in-Err g c =
-    begin_refused g.W.PartialEq.eq g.W.Runs.meaning c.args.self.now c.begin_job.new.self c.begin_job.ensures.same_plan c.args.event
+    begin_refused g.W.PartialEq.eq g.W.Runs.meaning c.args.self.now c.begin_job.new.self c.begin_job.ensures.same_plan
+    c.args.event
     c.in-Begin.number c.in-Begin.is c.in-Err.fault c.in-Err.ensures.kept c.in-Err.ensures.why
 
 pub returns-in-Ok-end_job : goal.returns-in-Ok-end_job

@@ -10,7 +10,8 @@ returns-in-Ok g c =
 pub returns-in-Err : goal.returns-in-Err
 returns-in-Err g c =
     step_refused g.W.PartialEq.eq g.W.Runs.meaning c.args.self.now c.event.new.self c.event.ensures.same_plan c.args.event
-    (event_of c.in-Some.due) c.in-Some.ensures.same c.in-Some.ensures.driven c.in-Err.fault c.in-Err.ensures.kept c.in-Err.ensures.why
+    (event_of c.in-Some.due) c.in-Some.ensures.same c.in-Some.ensures.driven c.in-Err.fault c.in-Err.ensures.kept
+    c.in-Err.ensures.why
 
 pub returns-in-None : goal.returns-in-None
 returns-in-None g c = c.step_job.ensures

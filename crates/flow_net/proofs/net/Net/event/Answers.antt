@@ -11,7 +11,8 @@ invariant_of-self g c =
     let last = c.take.new.self in
     let on = goes_on_taken g.W.PartialEq.eq g.W.Runs.meaning start last c.args.event c.take.result c.take.ensures in
     record {
-      kept = kept_by_plan g.W.Runs.meaning start.plan last.plan on.count start.parts last.parts c.take.ensures.same_plan on.happened
+      kept = kept_by_plan g.W.Runs.meaning start.plan last.plan on.count start.parts last.parts c.take.ensures.same_plan
+          on.happened
           c.args.self.now.kept;
     }
 

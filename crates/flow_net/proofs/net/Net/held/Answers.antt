@@ -14,4 +14,5 @@ waiting-requires g c =
     let engine = c.args.self.now.engine in
     subst (λ (it : BlockState). c.args.port < length it.ports)
     (sym (block_at (layout_of engine.plan) engine.parts c.args.block c.node.ensures c.block.ensures))
-    (port_there g.W.Runs.meaning engine.plan engine.parts c.args.self.now.kept c.args.block c.args.port c.requires.known c.requires.port)
+    (port_there g.W.Runs.meaning engine.plan engine.parts c.args.self.now.kept c.args.block c.args.port c.requires.known
+    c.requires.port)
