@@ -1,0 +1,52 @@
+"""The first command of README.md, which builds a program, and the build of the other."""
+
+import os
+import re
+import threading
+
+from accept.examples import COMMAND, compare_report, text_of, wanted_of
+from accept.shell import run
+
+# How long a build may take. Where a program can't be compiled without proof, the first call begins to prove it, which takes
+# longer.
+SECONDS = 1800
+
+
+def first_command(copy):
+    """The first command that README.md shows."""
+    found = map(COMMAND.match, text_of(copy, "README.md").split("\n"))
+    return next((command.group(1) for command in found if command), "")
+
+
+def keep_log(logs, name, ended):
+    with open(os.path.join(logs, name), "w", encoding="utf-8") as log:
+        log.write(ended.err)
+
+
+def build_flow(part, copy, logs):
+    ended = run("bin/flow --build", copy, SECONDS)
+    keep_log(logs, "flow", ended)
+    part.compare("bin/flow --build", ("status", 0, ended.status))
+
+
+def start(part, copy, logs):
+    """Makes the first call, with the other build beside it."""
+    other = threading.Thread(target=build_flow, args=(part, copy, logs))
+    other.start()
+    command = first_command(copy)
+    try:
+        ended = run(command, copy, SECONDS)
+    finally:
+        other.join()
+    keep_log(logs, "flow_run", ended)
+    name = re.match(r"bin/flow_run examples/(\w+)\.toml 1 < examples/\1\.csv$", command)
+    if name is None:
+        part.count(False, "README.md", [f"its first command runs no example: {command}"])
+    else:
+        compare_report(part, command, wanted_of(copy, name.group(1)), ended)
+
+
+def what_is_not_built(copy):
+    """The program that is not there, or None."""
+    names = [name for name in ("flow_run", "flow") if not os.path.exists(os.path.join(copy, "out", f"{name}.unproved"))]
+    return f"{' and '.join(names)} could not be built" if names else None

@@ -1,0 +1,210 @@
+"""Calls of the commands in bin/, each with what docs/ say of it: the status, and how output and refusal begin."""
+
+import os
+import re
+import shutil
+from typing import NamedTuple, Optional
+
+from accept.examples import run_shown, text_of
+from accept.shell import path_without, run
+
+USAGE = "usage: flow_run [NET WORKERS [LIMIT]]"
+
+# What fails when it is written to.
+FULL = "/dev/full"
+
+
+class Case(NamedTuple):
+    """A call, as sh reads it, in the copy."""
+
+    command: str
+    status: int
+    # The lines that standard output begins with, without the last line feed. Where it is empty, nothing is written; where it is
+    # None, anything is.
+    output: Optional[str] = ""
+    # How the only line of standard error begins; none where it is empty.
+    refusal: str = ""
+
+
+# What the cases behind them read. Each is one line of a call as examples/README.md and docs/past-one-machine.md have it.
+PREPARED = [
+    "bin/flow_run examples/import.toml 1 < examples/import.csv > import.report",
+    "bin/flow_run examples/fault.toml 1 < examples/fault.csv > fault.report",
+    "bin/flow_run examples/tours.toml 1 < examples/tours.csv > tours.report",
+    "cp examples/import.toml network.toml",
+    "cp examples/import.csv records.csv",
+]
+
+FORM = """printf 'format = 1\\nblock = []\\n[[link]]\\nform = "a"\\nto = "b"\\n'"""
+
+# Of each command of `flow` a call that does what it is for, and one that is refused.
+FLOW = [
+    Case("bin/flow --help", 0, None),
+    Case(
+        "bin/flow check examples/import.toml examples/import.csv",
+        0,
+        "examples/import.toml: accepted\nexamples/import.csv: accepted",
+    ),
+    Case(f"{FORM} | bin/flow check -", 1, '-:4:1: error: link 0 has a key "form", which links do not have. Did you mean "from"?'),
+    Case("bin/flow check nowhere.toml", 2, "", "flow: nowhere.toml: "),
+    Case("bin/flow draw examples/import.toml import.report", 0, "orders  buffer, input: done, took 3"),
+    Case(
+        "bin/flow draw examples/import.toml fault.report",
+        2,
+        "",
+        "flow: fault.report: the report is of another network: it has 2 blocks, and the network 8",
+    ),
+    Case("bin/flow why examples/import.toml import.report", 0, None),
+    Case("bin/flow why examples/README.md import.report", 2, "", "flow: examples/README.md: 1 Syntax"),
+    Case("bin/flow trace fault.report 1200", 0, "cents recorded it: number 1"),
+    Case("bin/flow trace fault.report eight", 1),
+    Case("bin/flow trace examples/fault.csv 12", 2, "", "flow: examples/fault.csv: line 1: a report has no such line here"),
+    Case("bin/flow results import.report order_numbers", 0, "order_numbers,1001\norder_numbers,1002\norder_numbers,1003"),
+    Case("bin/flow results - < examples/batches.report", 0, "totals,196850\ntotals,566850\ntotals,359175"),
+    Case("bin/flow results import.report nobody", 2, "", "flow: import.report: the report has no block nobody"),
+    Case("bin/flow sift examples/import.toml < examples/import.csv | cmp - examples/import.csv", 0),
+    Case(
+        "bin/flow sift examples/fault.toml < examples/fault.csv",
+        1,
+        "prices,12\nprices,7\nprices,120",
+        'record 3, line 3: cents faulted with 1 (NotInt): "prices,seven"',
+    ),
+    Case("bin/flow sift examples/README.md < examples/fault.csv", 2, "", "flow: examples/README.md: 1 Syntax"),
+    Case("bin/flow split 3 --name part examples/import.csv", 0, "part.1\npart.2\npart.3"),
+    Case("cat part.? | cmp - examples/import.csv", 0),
+    Case("bin/flow split 12 --name part examples/import.csv | tail -n 1", 0, "part.12"),
+    Case("bin/flow split 0 examples/import.csv", 2, "", "flow: "),
+    Case(
+        "bin/flow split 2 --by-key examples/import.csv",
+        2,
+        "",
+        "flow: examples/import.csv: record 1 is not a key, an input and a value",
+    ),
+    Case(
+        "bin/flow merge examples/fault.toml fault.report",
+        1,
+        "",
+        "flow: part 1 has status 1, and only parts with status 0 are merged",
+    ),
+    Case(
+        "bin/flow merge examples/tours.toml tours.report",
+        2,
+        "",
+        "flow: north is a join that reserves, and a network with one is not merged",
+    ),
+]
+
+# What is refused, and streams that fail, by each program that has been built.
+BUILT = [
+    Case("bin/flow_run examples/import.toml", 2, "", USAGE),
+    Case("bin/flow_run examples/import.toml 65 < examples/import.csv", 2, "", USAGE),
+    Case("bin/flow_run examples/import.toml 1 -1 < examples/import.csv", 2, "", USAGE),
+    Case("bin/flow_run examples/README.md 1 < examples/import.csv", 2, "", "flow_run: 1 Syntax"),
+    Case("echo 'parcels,9' | bin/flow_run examples/import.toml 1", 2, "", "flow_run: 11 UnknownInput record 1"),
+    Case("bin/flow_run examples/import.toml 1 0 < examples/import.csv", 3, "block orders open"),
+    Case("{ cat examples/import.toml; echo %%; cat examples/import.csv; } | bin/flow_run | tail -n 1", 0, "quiet"),
+    Case("bin/flow_run nowhere.toml 1 < examples/import.csv", 5, "", "flow_run: 12 Read"),
+    Case("bin/flow_run examples/import.toml 1 <&-", 5, "", "flow_run: 12 Read"),
+    Case("bin/flow_run <&-", 5, "", "flow_run: 12 Read"),
+    Case("bin/flow_run examples/import.toml 1 < examples/import.csv >&-", 5, "", "flow_run: 13 Write"),
+    Case(f"bin/flow_run examples/import.toml 1 < examples/import.csv > {FULL}", 5, "", "flow_run: 13 Write"),
+    Case("bin/flow_run examples/README.md 1 < examples/import.csv 2>&-", 2),
+    Case("bin/flow", 2, "", "flow: "),
+    Case("bin/flow fly", 2, "", "flow: "),
+    Case("bin/flow draw", 2, "", "flow: "),
+    Case("bin/flow draw examples/import.toml >&-", 5, "", "flow: "),
+    Case(f"bin/flow draw examples/import.toml > {FULL}", 5, "", "flow: "),
+    Case(f"bin/flow --help > {FULL}", 5, "", "flow: "),
+    Case("bin/flow sift examples/import.toml <&-", 2, "", "flow: standard input: "),
+]
+
+# Help, wrong arguments and streams that fail, where no program is built.
+UNBUILT = [
+    Case("bin/flow_run --help", 0, USAGE),
+    Case("bin/flow_run -h", 0, USAGE),
+    Case("bin/flow_run examples/import.toml 0", 2, "", USAGE),
+    Case("bin/flow_run a b c d", 2, "", USAGE),
+    Case("test -e out", 1),
+    Case("bin/flow_run --help >&-", 5, "", "flow_run: "),
+    Case(f"bin/flow_run --help > {FULL}", 5, "", "flow_run: "),
+    Case("bin/audit --help", 0, "usage: bin/audit [--keep FOLDER] [NAME..]    tries the wrong edits of these crates, or of all"),
+    Case("bin/audit nobody", 2, "", "audit: nobody is no crate with edits"),
+    Case("bin/audit --help >&-", 5, "", "audit: "),
+    Case(f"bin/audit --help > {FULL}", 5, "", "audit: "),
+    Case("bin/accept --help", 0, None),
+    Case("bin/accept --slow", 2, "", "accept: "),
+    Case("bin/accept --help >&-", 5, "", "accept: "),
+    Case(f"bin/accept --help > {FULL}", 5, "", "accept: "),
+]
+
+# Where the kit is missing nothing can be built.
+WITHOUT_KIT = [
+    Case("bin/flow_run examples/import.toml 1 < examples/import.csv", 127, "", "flow_run: rt is not found"),
+    Case("bin/flow check examples/import.toml", 127, "", "flow: rt is not found"),
+]
+
+
+def begins(text, wanted):
+    """How a text begins, as far as the wanted lines go."""
+    if wanted is None:
+        return None
+    return "\n".join(text.split("\n")[: wanted.count("\n") + 1]) if wanted else text
+
+
+def only_line(text, wanted):
+    """How a text begins that is to be one line, as far as that is wanted; a text of several lines is left whole."""
+    is_line = text.endswith("\n") and text.count("\n") == 1
+    return text[: len(wanted)] if wanted and is_line else text
+
+
+def run_cases(part, cases, copy, path=None):
+    for case in cases:
+        if FULL in case.command and not os.path.exists(FULL):
+            part.skip(case.command, f"there is no {FULL}")
+            continue
+        ended = run(case.command, copy, path=path)
+        output = ("output", case.output, begins(ended.out, case.output))
+        refusal = ("standard error", case.refusal, only_line(ended.err, case.refusal))
+        part.compare(case.command, ("status", case.status, ended.status), output, refusal)
+
+
+def apply_edits(part, copy):
+    """Counts each wrong edit that `bin/audit --applies` looks at."""
+    ended = run("bin/audit --applies", copy)
+    *bad, last = ended.out.rstrip("\n").split("\n")
+    told = re.fullmatch(r"audit: (\d+) passed, \d+ failed", last)
+    if told is None:
+        part.count(False, "bin/audit --applies", [f"status {ended.status}", last, *ended.err.split("\n")[-2:]])
+        return
+    part.passed += int(told.group(1))
+    for edit in bad:
+        part.count(False, edit)
+
+
+def call_unbuilt(part, copy, room):
+    """The cases that need no program, in a copy where none is built, and without a kit."""
+    bare = os.path.join(room, "bare")
+    shutil.copytree(copy, bare, ignore=shutil.ignore_patterns("src", "specs", "proofs"))
+    run_cases(part, UNBUILT, bare)
+    run_cases(part, WITHOUT_KIT, bare, path_without("rt", os.path.join(room, "path")))
+
+
+def call_built(part, copy):
+    run_cases(part, BUILT, copy)
+
+
+def call_flow(part, copy):
+    for command in PREPARED:
+        run(command, copy)
+    run_shown(part, copy)
+    run_cases(part, FLOW, copy)
+    merge_parts(part, copy)
+
+
+def merge_parts(part, copy):
+    """The script of docs/past-one-machine.md: the report of the whole is that of one run."""
+    lines = text_of(copy, "docs/past-one-machine.md").split("\n")
+    first = lines.index("    bin/flow split 8 records.csv")
+    script = "\n".join(lines[first : lines.index("", first)])
+    ended = run(f"set -e\n{script}\ncmp whole.report import.report >&2", copy)
+    part.compare("the script of docs/past-one-machine.md", ("status", 0, ended.status), ("standard error", "", ended.err))

@@ -1,0 +1,105 @@
+"""Commands that are run in a copy of the repository."""
+
+import os
+import shutil
+import signal
+import subprocess
+import sys
+import threading
+
+# How long a command may take that builds nothing, and how long one may that is told to end.
+SECONDS = 120
+ENDING = 10
+
+running = set()
+guard = threading.RLock()
+stopping = threading.Event()
+
+
+class Ended:
+    """How a command ended; the status is None where it took too long, or did not begin."""
+
+    def __init__(self, status, out, err):
+        self.status = status
+        self.out = out.decode("utf-8", "backslashreplace")
+        self.err = err.decode("utf-8", "backslashreplace")
+
+
+def end(process):
+    """Ends a command with all that it started."""
+    for number in (signal.SIGTERM, signal.SIGKILL):
+        try:
+            os.killpg(process.pid, number)
+            process.wait(ENDING)
+        except (ProcessLookupError, subprocess.TimeoutExpired):
+            pass
+
+
+def stop(number, _frame):
+    """Ends all commands, and then this one, where a signal asks for it."""
+    stopping.set()
+    with guard:
+        for process in list(running):
+            end(process)
+    sys.exit(128 + number)
+
+
+def begin(words, folder, environment):
+    """Begins a command in a session of its own, unless this one is to end."""
+    pipes = {"stdin": subprocess.DEVNULL, "stdout": subprocess.PIPE, "stderr": subprocess.PIPE}
+    with guard:
+        if stopping.is_set():
+            sys.exit(1)
+        process = subprocess.Popen(words, cwd=folder, env=environment, start_new_session=True, **pipes)
+        running.add(process)
+        return process
+
+
+def run(command, folder, seconds=SECONDS, path=None):
+    """Runs a command, or a text for sh, and answers how it ended. Its standard input is empty where the text names none."""
+    if not os.path.isdir(folder):
+        return Ended(None, b"", f"there is no folder {folder}".encode())
+    words = ["sh", "-c", command] if isinstance(command, str) else command
+    process = begin(words, folder, {**os.environ, "PATH": path} if path else None)
+    try:
+        out, err = process.communicate(timeout=seconds)
+        return Ended(process.returncode if process.returncode >= 0 else 128 - process.returncode, out, err)
+    except subprocess.TimeoutExpired:
+        end(process)
+        return Ended(None, b"", f"it had not ended after {seconds} s".encode())
+    finally:
+        with guard:
+            running.discard(process)
+
+
+def path_without(program, folder):
+    """A PATH on which all programs are but this one: a folder of links."""
+    os.mkdir(folder)
+    for place in os.environ.get("PATH", os.defpath).split(os.pathsep):
+        names = os.listdir(place) if os.path.isdir(place) else []
+        for name in names:
+            if name != program and not os.path.lexists(os.path.join(folder, name)):
+                os.symlink(os.path.join(os.path.abspath(place), name), os.path.join(folder, name))
+    return folder
+
+
+def tracked(top):
+    """The files that git tracks, by their paths, or None where there is no git."""
+    if not os.path.exists(os.path.join(top, ".git")) or not shutil.which("git"):
+        return None
+    pipes = {"stdin": subprocess.DEVNULL, "stdout": subprocess.PIPE, "stderr": subprocess.DEVNULL}
+    listed = subprocess.run(["git", "ls-files", "-z"], cwd=top, **pipes)
+    return [os.fsdecode(name) for name in listed.stdout.split(b"\0") if name] if listed.returncode == 0 else None
+
+
+def copy_tree(top, to):
+    """A copy of what git tracks, as it stands; or of all but what is built, where there is no git."""
+    names = tracked(top)
+    if names is None:
+        shutil.copytree(top, to, symlinks=True, ignore=shutil.ignore_patterns("out", ".git", "__pycache__"))
+        return
+    for name in names:
+        source, target = os.path.join(top, name), os.path.join(to, name)
+        if os.path.lexists(source):
+            os.makedirs(os.path.dirname(target), exist_ok=True)
+            shutil.copy2(source, target, follow_symlinks=False)
