@@ -9,6 +9,7 @@ pub mod GroupsTaken
 pub mod HeadKept
 pub mod JobsBack
 pub mod JobsCount
+pub mod JobsEnd
 pub mod JobsOut
 pub mod JobsRecorded
 pub mod LanesBusy
@@ -30,6 +31,7 @@ pub mod RoomBack
 pub mod RoomFits
 pub mod SourceMoves
 pub mod SourceStands
+pub mod TakesTell
 pub mod TargetMoves
 pub mod TargetStands
 pub mod TuplesFit

@@ -83,9 +83,13 @@ impl Block {
         ensures told { result ≡ may_keep link header self.old.exits }
         ensures left { self.new ≡ cond (may_keep link header self.old.exits) (keeps_head link header self.old) self.old }
     {
-        self.exits.may_reserve(link, header)
-            && self.exits.may_consume(link, header)
-            && self.exits.reserve_message(link, header)
+        if !self.exits.may_reserve(link, header) {
+            return false;
+        }
+        if !self.exits.may_consume(link, header) {
+            return false;
+        }
+        self.exits.reserve_message(link, header)
     }
 }
 

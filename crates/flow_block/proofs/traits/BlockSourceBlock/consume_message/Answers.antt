@@ -4,7 +4,7 @@ use Rattle.flow_link.specs.BlockCalls.{Stays}
 use Rattle.flow_link.specs.declared.trace.Outcome.{Outcome}
 use Rattle.flow_link.specs.SourceCalls.{is_promised}
 use Rattle.flow_block.specs.Block.{BlockState}
-use Rattle.flow_block.specs.Traits.{source_at, outcome_of, may_take, gives_over}
+use Rattle.flow_block.specs.Traits.{source_at, outcome_of, may_take, gives_over, may_take_copy, copies_home}
 use Rattle.flow_block.proofs.SourceMoves.{head_consumes, copy_consumes, gives_so}
 use Rattle.flow_block.proofs.traits.BlockSourceBlock.consume_message.Goals as goal
 
@@ -43,4 +43,24 @@ returns-then-shares-clause-outcome_stays c =
     let block = c.args.self.now in
     let gives = may_take c.args.link c.args.header block.exits in
     let same = ap outcome_of c.give_head.ensures.left ∙ stopped_so gives c.args.link c.args.header block in
+    subst (λ (later : Option Outcome). Stays (outcome_of block) later) (sym same) (stays_so (outcome_of block))
+
+pub returns-else-shares-clause-promised : goal.returns-else-shares-clause-promised
+returns-else-shares-clause-promised c =
+    let block = c.args.self.now in
+    let told = copy_consumes block c.args.link c.args.header (sym c.if-shares.ensures) c.requires in
+    OnTrue_from (is_promised (source_at block c.args.link)) (is_some c.give_copy_over.result ≡ true)
+    (λ promised. ap is_some c.give_copy_over.ensures.given ∙ told.promised promised)
+
+-- nor where it copies
+copied_so : (gives : Bool) (link header : ℕ) (block : BlockState)
+    → outcome_of (cond gives (copies_home link header block) block) ≡ outcome_of block
+copied_so true link header block = refl
+copied_so false link header block = refl
+
+pub returns-else-shares-clause-outcome_stays : goal.returns-else-shares-clause-outcome_stays
+returns-else-shares-clause-outcome_stays c =
+    let block = c.args.self.now in
+    let gives = may_take_copy c.args.link c.args.header block.copies in
+    let same = ap outcome_of c.give_copy_over.ensures.left ∙ copied_so gives c.args.link c.args.header block in
     subst (λ (later : Option Outcome). Stays (outcome_of block) later) (sym same) (stays_so (outcome_of block))
