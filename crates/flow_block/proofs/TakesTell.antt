@@ -82,8 +82,8 @@ module _ (link header : ℕ) {block old : BlockState} (is : block ≡ old) (aske
       let takes = takes_where asks ∙ given_there block.exits link header value consumed_is in
       let told = exits_is ∙ ap (λ (after : OutletState). record after { room = 0 }) after_is in
       let back = ports_is
-          ∙ ap₂ (λ (after : OutletState) (head : Option Value). comes_back after block.copies block.kind head block.ports) after_is
-          (ap Some seen_is ∙ sym consumed_is) in
+      ∙ ap₂ (λ (after : OutletState) (head : Option Value). comes_back after block.copies block.kind head block.ports) after_is
+      (ap Some seen_is ∙ sym consumed_is) in
       subst (λ (old : BlockState). GivesHead link header old (Some value) (record block { exits = exits; ports = ports })) is (record {
         given = sym consumed_is ∙ sym (ap (λ (takes : Bool). cond takes (consumed link header block.exits) None) takes);
         left = ap₂ (λ (exits : OutletState) (ports : List PortState). record block { exits = exits; ports = ports }) told back
@@ -268,7 +268,7 @@ module _ (link header : ℕ) {block old : BlockState} (is : block ≡ old) where
         let takes = copy_takes element asks ∙ there in
         let home = copies_is ∙ ap (λ (there : Bool). cond there (gives_home at header block.copies) block.copies) there in
         let back = ports_is
-            ∙ ap₂ (λ (counted : ℕ) (copies : SpreadState). map (gives_room (counted - copies_weight copies)) block.ports) counted_is home in
+        ∙ ap₂ (λ (counted : ℕ) (copies : SpreadState). map (gives_room (counted - copies_weight copies)) block.ports) counted_is home in
         let value_is = sym consumed_is ∙ ap (λ (there : Bool). cond there block.copies.element None) there in
         subst (λ (old : BlockState). GivesCopy link header old (Some value) (record block { copies = copies; ports = ports })) is (record {
           given = value_is ∙ sym (ap (λ (takes : Bool). cond takes block.copies.element None) takes);

@@ -8,11 +8,11 @@ pub returns-then-is_some : goal.returns-then-is_some
 returns-then-is_some c =
     let ends : EndsAlone c.args.ticket c.args.answer c.args.self.now =
     elim c.then-is_some.branch [
-    then-is_some-via-then-is_some w ↦
-        ends_in_fault c.args.ticket c.args.answer c.self.view_is (sym c.is_some.ensures ∙ w.if-is_some.true)
-    | then-is_some-via-else-is_some+then-not-is_first w ↦
-        ends_behind c.args.ticket c.args.answer c.self.view_is (sym c.is_some.ensures ∙ w.if-is_some.false)
-        (sym w.is_first.ensures ∙ w.if-not-is_first.true) c.requires.out c.requires.drained
+      | then-is_some-via-then-is_some w ↦
+          ends_in_fault c.args.ticket c.args.answer c.self.view_is (sym c.is_some.ensures ∙ w.if-is_some.true)
+      | then-is_some-via-else-is_some+then-not-is_first w ↦
+          ends_behind c.args.ticket c.args.answer c.self.view_is (sym c.is_some.ensures ∙ w.if-is_some.false)
+          (sym w.is_first.ensures ∙ w.if-not-is_first.true) c.requires.out c.requires.drained
     ] in
     record {
       done = brought c.args.ticket c.args.answer c.self.view_is c.bring.new.self c.bring.ensures ∙ ends.done;

@@ -31,10 +31,10 @@ pub returns-then-is_none : goal.returns-then-is_none
 returns-then-is_none c =
     let none : GivesCopy c.args.link c.args.header c.args.self.now None c.args.self.now =
     elim c.then-is_none.branch [
-    then-is_none-via-then-is_none w ↦
-        no_element c.args.link c.args.header c.self.view_is (there_is c.element.result c.self.inside.copies.element c.is_none.result false c.is_none.ensures c.element.ensures w.if-is_none.true)
-    | then-is_none-via-else-is_none+then-not-may_consume w ↦
-        copy_refused c.args.link c.args.header c.self.view_is w.may_consume.result w.may_consume.ensures w.if-not-may_consume.true
+      | then-is_none-via-then-is_none w ↦
+          no_element c.args.link c.args.header c.self.view_is (there_is c.element.result c.self.inside.copies.element c.is_none.result false c.is_none.ensures c.element.ensures w.if-is_none.true)
+      | then-is_none-via-else-is_none+then-not-may_consume w ↦
+          copy_refused c.args.link c.args.header c.self.view_is w.may_consume.result w.may_consume.ensures w.if-not-may_consume.true
     ] in
     record { given = none.given; left = none.left }
 
