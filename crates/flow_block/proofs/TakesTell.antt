@@ -1,19 +1,19 @@
 -- What the tests of the calls by link tell: whether a block gives a message over a link, and what the call makes of it then.
 use Rattle.std.proofs.Common.{◌≡◌, ℕ, ◌-◌, ◌==◌, ltb, Bool, true, false, not, ◌&&◌, ◌||◌, ◌↔◌, cond, List, [], ◌∷◌, length, map, Option, Some, None, is_some, option_copied, refl, ap, ap₂, sym, ◌∙◌, subst}
-use Rattle.std.proofs.lemmas.Bool.{OnTrue_at, OnTrue_from, and_parts, and_left, and_right, ltb-true, lt-ltb}
+use Rattle.std.proofs.lemmas.Bool.{OnTrue_at, OnTrue_from, and_parts, and_right, ltb-true, lt-ltb}
 use denote.Ref.{Bor}
 use Rattle.flow_value.specs.declared.value.Value.{Value}
 use Rattle.flow_link.specs.LinkOk.{HasRoom}
 use Rattle.flow_intake.specs.Port.{PortState}
 use Rattle.flow_intake.specs.Calls.{gives_room}
-use Rattle.flow_outlet.specs.Outlet.{OutletState, is_empty, first_of, head_of}
-use Rattle.flow_outlet.specs.ByLink.{place_of, gives_home as gives_head_home, has_room, is_kept_elsewhere, is_there, tests_consume, consumed, consumes, MayConsume, MayReserve, tests_reserve, reserved, reserves, keeps}
+use Rattle.flow_outlet.specs.Outlet.{OutletState, may_offer, is_empty, first_of, head_of}
+use Rattle.flow_outlet.specs.ByLink.{place_of, named_at, offers_at, offer_named, offers_next, gives_home as gives_head_home, has_room, is_there, tests_consume, consumed, consumes, MayConsume, MayReserve, tests_reserve, reserved, reserves, keeps}
 use Rattle.flow_outlet.proofs.TestsTell.{consume_tells, reserve_tells}
-use Rattle.flow_spread.specs.Spread.{SpreadState, end_at, link_at}
+use Rattle.flow_spread.specs.Spread.{SpreadState, end_at}
 use Rattle.flow_spread.specs.ByLink.{gives_home, place_of as copy_place, is_there as is_copy_there, tests_take as tests_copy_take, tests_consume as tests_copy, consumed as copy_consumed, consumes as copy_consumes, MayConsume as MayConsumeCopy, MayTake as MayTakeCopy}
-use Rattle.flow_block.specs.Block.{BlockState, comes_back}
+use Rattle.flow_block.specs.Block.{BlockState, comes_back, with_copies}
 use Rattle.flow_block.specs.Copies.{copies_weight}
-use Rattle.flow_block.specs.Traits.{may_take, gives_over, may_keep, keeps_head, may_take_copy, copies_home}
+use Rattle.flow_block.specs.Traits.{carries, offers_over, may_take, gives_over, may_keep, keeps_head, may_take_copy, copies_home}
 use Rattle.flow_block.proofs.SourceStands.{given_there, there_is_head}
 
 -- two tests of one thing are the same
@@ -88,6 +88,51 @@ module _ (link header : ℕ) {block old : BlockState} (is : block ≡ old) (aske
         given = sym consumed_is ∙ sym (ap (λ (takes : Bool). cond takes (consumed link header block.exits) None) takes);
         left = ap₂ (λ (exits : OutletState) (ports : List PortState). record block { exits = exits; ports = ports }) told back
             ∙ sym (ap (λ (takes : Bool). cond takes (gives_over link header block) block) takes);
+      })
+
+-- The next offer
+
+-- what a call comes to that would offer the head over the next link
+pub record OffersHead (old : BlockState) (offer : Option (ℕ × ℕ)) (new : BlockState) : Type 0 where
+  pub named : offer ≡ named_at old.exits (offers_over old.exits (may_offer old.exits))
+  pub done : new ≡ record old { exits = offers_at old.exits (offers_over old.exits (may_offer old.exits)) }
+
+carried : (o : OutletState) (place : Option ℕ) → is_some (offers_over o place) ≡ true → offers_over o place ≡ place
+carried o None some = refl
+carried o (Some k) some = by (carries k o.ends) refl
+  where
+    by : (may : Bool) → carries k o.ends ≡ may → offers_over o (Some k) ≡ Some k
+    by true is = ap (λ (may : Bool). cond may (Some k) None) is
+    by false is =
+        let none : is_some (offers_over o (Some k)) ≡ false = ap (λ (may : Bool). is_some (cond may (Some k) None)) is in
+        absurd (let wrong : true ≡ false = sym some ∙ none in cc)
+
+none_carried : (place : Option ℕ) → is_some place ≡ false → place ≡ None
+none_carried None none = refl
+none_carried (Some k) none = absurd (cc)
+
+module _ {block old : BlockState} (is : block ≡ old) (carries : Bool) (told : carries ≡ is_some (offers_over old.exits (may_offer old.exits))) where
+  told_here : carries ≡ is_some (offers_over block.exits (may_offer block.exits))
+  told_here =
+      told ∙ sym (ap (λ (block : BlockState). is_some (offers_over block.exits (may_offer block.exits))) is)
+
+  -- over none
+  pub none_offered : carries ≡ false → OffersHead old None old
+  none_offered none =
+      let nowhere = none_carried (offers_over block.exits (may_offer block.exits)) (sym told_here ∙ none) in
+      subst (λ (block : BlockState). OffersHead block None block) is (record {
+        named = sym (ap (named_at block.exits) nowhere);
+        done = sym (ap (λ (place : Option ℕ). record block { exits = offers_at block.exits place }) nowhere);
+      })
+
+  pub head_offered : carries ≡ true → {offer : Option (ℕ × ℕ)} {exits : OutletState} → offer ≡ offer_named block.exits
+      → exits ≡ offers_next block.exits → OffersHead old offer (record block { exits = exits })
+  head_offered some {offer} {exits} named exits_are =
+      let there = carried block.exits (may_offer block.exits) (sym told_here ∙ some) in
+      subst (λ (old : BlockState). OffersHead old offer (record block { exits = exits })) is (record {
+        named = named ∙ sym (ap (named_at block.exits) there);
+        done = ap (λ (exits : OutletState). record block { exits = exits }) exits_are
+            ∙ sym (ap (λ (place : Option ℕ). record block { exits = offers_at block.exits place }) there);
       })
 
 -- what a call comes to that would keep the head for a link
@@ -275,3 +320,14 @@ module _ (link header : ℕ) {block old : BlockState} (is : block ≡ old) where
           left = ap₂ (λ (copies : SpreadState) (ports : List PortState). record block { copies = copies; ports = ports }) home back
               ∙ sym (ap (λ (takes : Bool). cond takes (copies_home link header block) block) takes);
         })
+
+-- what it copies comes to stand so, and room comes back where the element counts no more
+pub copies_changed : {block old : BlockState} → block ≡ old → (change : SpreadState → SpreadState) → {copies : SpreadState}
+    → {ports : List PortState} {counted : ℕ} → copies ≡ change block.copies → counted ≡ copies_weight block.copies
+    → ports ≡ map (gives_room (counted - copies_weight copies)) block.ports
+    → record block { copies = copies; ports = ports } ≡ with_copies (change old.copies) old
+copies_changed {block} {old} is change {copies} {ports} {counted} copies_are counted_is ports_are =
+    ap₂ (λ (copies : SpreadState) (ports : List PortState). record block { copies = copies; ports = ports }) copies_are
+    (ports_are
+    ∙ ap₂ (λ (counted : ℕ) (copies : SpreadState). map (gives_room (counted - copies_weight copies)) block.ports) counted_is copies_are)
+    ∙ ap (λ (block : BlockState). with_copies (change block.copies) block) is

@@ -2,14 +2,14 @@
 //!
 //! What the element takes of the block's room comes back when no link owes it any more, and never where the block takes one
 //! message in all.
-ghost use Rattle.std.specs.Prelude.{◌≡◌, ◌<◌, ◌≤◌, ◌+◌, ◌-◌, ◌^◌, ◌↔◌, true, length, map, is_some, Some, Err, IfOk, IfErr, OnOk, OnErr, MatchResult};
+ghost use Rattle.std.specs.Prelude.{◌≡◌, ◌<◌, ◌≤◌, ◌+◌, ◌-◌, ◌^◌, ◌↔◌, true, false, [], length, map, is_some, Some, Err, IfOk, IfErr, OnOk, OnErr, MatchResult};
 ghost use Rattle.flow_link.specs.LinkOk.{HasRoom};
 ghost use Rattle.flow_link.specs.declared.stage.SourceStage.TheVariants.{Out};
 ghost use Rattle.flow_intake.specs.Calls.{first_of, gives_room};
 ghost use Rattle.flow_outlet.specs.End.{is_free, is_waiting};
 ghost use Rattle.flow_outlet.specs.Outlet.{fresh_outlet};
 ghost use Rattle.flow_outlet.specs.declared.fault.OutletFault.TheVariants.{Ids};
-ghost use Rattle.flow_spread.specs.Spread.{may_offer, may_give, is_asked_by, is_spread_free, end_at, link_at, stage_at};
+ghost use Rattle.flow_spread.specs.Spread.{fresh_spread, may_offer, may_give, is_asked_by, is_spread_free, end_at, link_at, stage_at};
 ghost use Rattle.flow_spread.specs.Spread.{gives, holds, withdraws, ends_link, looks, offers, prepares};
 ghost use Rattle.flow_spread.specs.Sends.{sends};
 ghost use Rattle.flow_block.specs.Block.{held_by, copies_next, copies_at_once, copies_taken, with_copies};
@@ -40,24 +40,64 @@ pub(crate) fn exits_of(
         unreachable!()
     };
     match kind.unit() {
-        BlockUnit::Copy => {
-            let Ok(exits) = Outlet::new(alloc, Vec::new(alloc), first) else {
-                return Err(rules);
-            };
-            Ok((exits, Spread::new(alloc, rules, first)?))
-        }
-        BlockUnit::OneCopy => {
-            let Ok(exits) = Outlet::new(alloc, Vec::new(alloc), first) else {
-                return Err(rules);
-            };
-            Ok((exits, Spread::new_once(alloc, rules, first)?))
-        }
+        BlockUnit::Copy => copying(alloc, false, rules, first),
+        BlockUnit::OneCopy => copying(alloc, true, rules, first),
         BlockUnit::Message | BlockUnit::Row | BlockUnit::Tuple | BlockUnit::Group => {
-            let Ok(copies) = Spread::new(alloc, Vec::new(alloc), first) else {
-                return Err(rules);
-            };
-            Ok((Outlet::new(alloc, rules, first)?, copies))
+            sharing(alloc, rules, first)
         }
+    }
+}
+
+/// What a block has to give over these links, and nothing that it copies.
+fn sharing(
+    alloc: Global,
+    rules: Vec<LinkRule>,
+    first: MessageHeader,
+) -> Result<(Outlet, Spread), Vec<LinkRule>>
+    ensures { MatchResult result (λ made. (made.0 ≡ fresh_outlet rules.items first) ×
+        (made.1 ≡ fresh_spread false [] first)) (λ back. back ≡ rules) }
+{
+    let Ok(copies) = Spread::new(alloc, Vec::new(alloc), first) else {
+        return Err(rules);
+    };
+    match Outlet::new(alloc, rules, first) {
+        Ok(exits) => Ok((exits, copies)),
+        Err(rules) => Err(rules),
+    }
+}
+
+/// What a block copies to these links, once or each time, and nothing that it has to give.
+fn copying(
+    alloc: Global,
+    once: bool,
+    rules: Vec<LinkRule>,
+    first: MessageHeader,
+) -> Result<(Outlet, Spread), Vec<LinkRule>>
+    ensures { MatchResult result (λ made. (made.0 ≡ fresh_outlet [] first) ×
+        (made.1 ≡ fresh_spread once rules.items first)) (λ back. back ≡ rules) }
+{
+    let Ok(exits) = Outlet::new(alloc, Vec::new(alloc), first) else {
+        return Err(rules);
+    };
+    match copies_of(alloc, once, rules, first) {
+        Ok(copies) => Ok((exits, copies)),
+        Err(rules) => Err(rules),
+    }
+}
+
+// the copies alone
+fn copies_of(
+    alloc: Global,
+    once: bool,
+    rules: Vec<LinkRule>,
+    first: MessageHeader,
+) -> Result<Spread, Vec<LinkRule>>
+    ensures { MatchResult result (λ copies. copies ≡ fresh_spread once rules.items first) (λ back. back ≡ rules) }
+{
+    if once {
+        Spread::new_once(alloc, rules, first)
+    } else {
+        Spread::new(alloc, rules, first)
     }
 }
 

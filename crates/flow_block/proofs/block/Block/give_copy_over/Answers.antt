@@ -9,6 +9,9 @@ use Rattle.flow_block.proofs.TakesTell.{GivesCopy, some_copied, no_element, copy
 use Rattle.flow_block.proofs.block.Block.give_copy_over.Goals.{then-is_none-via-then-is_none, then-is_none-via-else-is_none+then-not-may_consume}
 use Rattle.flow_block.proofs.block.Block.give_copy_over.Goals as goal
 
+pub consume_message-requires : goal.consume_message-requires
+consume_message-requires c = c.may_consume.ensures.0 c.if-not-may_consume.false
+
 pub give_back-requires : goal.give_back-requires
 give_back-requires c =
     rw (c.consume_message.ensures.left, c.copies_weight-counted.ensures)
