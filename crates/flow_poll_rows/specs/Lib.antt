@@ -1,2 +1,0 @@
-pub mod Desk
-pub mod Shelf

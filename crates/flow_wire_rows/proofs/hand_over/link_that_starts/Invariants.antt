@@ -1,4 +1,0 @@
-use Rattle.flow_wire_rows.proofs.hand_over.link_that_starts.Given as goal
-
-abbrev pub ghost-new : goal.ghost-new
-ghost-new g a = g.start
