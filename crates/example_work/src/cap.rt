@@ -5,7 +5,7 @@ use flow_value::{Value, Work, WorkFault};
 use std::alloc::{AllocError, Global};
 
 /// The most cents that are charged: a greater charge becomes this one.
-#[derive(Clone, Copy, PartialEq, Eq)]
+#[derive(Clone, Copy, Debug, PartialEq, Eq)]
 pub struct Cap {
     pub most: i64,
 }
