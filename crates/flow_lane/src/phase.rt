@@ -3,7 +3,7 @@ ghost use Rattle.std.specs.Prelude.{◌≡◌};
 ghost use Rattle.flow_lane.specs.Phase.{word_of_phase, IsWord};
 
 /// Where a lane stands.
-#[derive(Clone, Copy, PartialEq, Eq)]
+#[derive(Clone, Copy, Debug, PartialEq, Eq)]
 pub enum LanePhase {
     /// Nothing is in it.
     Free,
