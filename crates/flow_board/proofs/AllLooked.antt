@@ -25,9 +25,9 @@ use Rattle.flow_input.proofs.InputsMove.{inputs_keep}
 use Rattle.flow_input.proofs.PostedKept.{posted_is_kept}
 use Rattle.flow_input.proofs.TellsMay.{inputs_tell}
 use Rattle.flow_poll.specs.Sends.{SendView}
-use Rattle.flow_board.specs.Events.{HasLooked, InputLooks, LooksBy}
-use Rattle.flow_board.proofs.InputTells.{look_gives_nothing}
-use Rattle.flow_board.proofs.TurnsHappen.{looks_further, one_look, stays, stays_so}
+use Rattle.flow_task.specs.Events.{HasLooked, InputLooks, LooksBy}
+use Rattle.flow_task.proofs.InputTells.{look_gives_nothing}
+use Rattle.flow_task.proofs.TurnsHappen.{looks_further, one_look, stays, stays_so}
 
 module _ {W : Type 0} (layout : Layout W) (meaning : ℕ → Value → Result (List Value) ℕ) where
   -- the end of one link looks, where it begins

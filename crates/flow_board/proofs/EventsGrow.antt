@@ -27,10 +27,10 @@ use Rattle.flow_exec.specs.Works.{works_of}
 use Rattle.flow_net.specs.Happened.{Happened}
 use Rattle.flow_poll.specs.Turns.{Extends}
 use Rattle.flow_poll.proofs.EachGoes.{extends_further, extends_itself}
-use Rattle.flow_board.specs.Begun.{JournalsExtend}
+use Rattle.flow_task.specs.Begun.{JournalsExtend}
 use Rattle.flow_board.specs.Home.{HasGoneOn}
-use Rattle.flow_board.proofs.JournalsGrow.{grows}
-use Rattle.flow_board.proofs.TurnsGrow.{extends_prop}
+use Rattle.flow_task.proofs.JournalsGrow.{grows}
+use Rattle.flow_task.proofs.TurnsGrow.{extends_prop}
 
 -- the journal of this block in one network goes on in another
 abbrev GoesOnAt : ℕ → NetState → NetState → Type 0

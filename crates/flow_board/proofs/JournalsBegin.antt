@@ -4,16 +4,16 @@ use Rattle.std.proofs.Math.Logic.{∥∥₁_elim}
 use Rattle.flow_lists.specs.Lists.{numbers_from}
 use Rattle.flow_link.specs.Planned.{layout_of}
 use Rattle.flow_poll.specs.Turns.{Extends}
-use Rattle.flow_board.specs.Begun.{begun_journal}
-use Rattle.flow_board.specs.Kinds.{BeginsBy}
-use Rattle.flow_board.specs.Parts.{AllTasksOf, board_of, marks_by, marks_in, task_number}
-use Rattle.flow_board.specs.declared.board.Board.{Board}
-use Rattle.flow_board.specs.declared.numbered.Kind.{Kind}
-use Rattle.flow_board.specs.declared.numbered.Kind.TheVariants as kind
-use Rattle.flow_board.specs.declared.numbered.Task.{Task}
-use Rattle.flow_board.proofs.TakenApart.{number_here}
-use Rattle.flow_board.proofs.TurnsGrow.{extends_prop}
-use Rattle.flow_board.proofs.TasksApart.{block_board, block_number, input_later, lane_later}
+use Rattle.flow_task.specs.Begun.{begun_journal}
+use Rattle.flow_task.specs.Kinds.{BeginsBy}
+use Rattle.flow_task.specs.Parts.{AllTasksOf, board_of, marks_by, marks_in, task_number}
+use Rattle.flow_task.specs.declared.board.Board.{Board}
+use Rattle.flow_task.specs.declared.numbered.Kind.{Kind}
+use Rattle.flow_task.specs.declared.numbered.Kind.TheVariants as kind
+use Rattle.flow_task.specs.declared.numbered.Task.{Task}
+use Rattle.flow_task.proofs.TakenApart.{number_here}
+use Rattle.flow_task.proofs.TurnsGrow.{extends_prop}
+use Rattle.flow_task.proofs.TasksApart.{block_board, block_number, input_later, lane_later}
 
 -- how many blocks are on a board
 abbrev count : {W : Type 0} → Board W → ℕ

@@ -38,20 +38,20 @@ use Rattle.flow_input.proofs.InputsAreParts.{inputs_are_parts}
 use Rattle.flow_input.proofs.InputsInOrder.{told_within}
 use Rattle.flow_moves.proofs.PlansRun.{plan_runs}
 use Rattle.flow_poll.specs.Sends.{SendView}
-use Rattle.flow_board.specs.Begun.{begun_input}
-use Rattle.flow_board.specs.Entries.{took_at}
-use Rattle.flow_board.specs.Events.{HasLooked, InputLooks}
+use Rattle.flow_task.specs.Begun.{begun_input}
+use Rattle.flow_task.specs.Entries.{took_at}
+use Rattle.flow_task.specs.Events.{HasLooked, InputLooks}
 use Rattle.flow_board.specs.Gathers.{EntryIsKept, ExitIsKept, IsToldOf}
-use Rattle.flow_board.specs.Inputs.{is_of_input}
-use Rattle.flow_board.specs.Lefts.{EntryIsAt, ExitIsAt}
-use Rattle.flow_board.specs.Numbers.{place_in}
-use Rattle.flow_board.specs.Orders.{HasLookedAround}
-use Rattle.flow_board.specs.Parts.{entry_board, entry_link, entry_state, exit_board, exit_link, exit_state}
-use Rattle.flow_board.specs.declared.board.Board.{Board}
-use Rattle.flow_board.specs.declared.numbered.Entry.{Entry}
-use Rattle.flow_board.specs.declared.numbered.Exit.{Exit}
+use Rattle.flow_task.specs.Inputs.{is_of_input}
+use Rattle.flow_task.specs.Lefts.{EntryIsAt, ExitIsAt}
+use Rattle.flow_task.specs.Numbers.{place_in}
+use Rattle.flow_task.specs.Orders.{HasLookedAround}
+use Rattle.flow_task.specs.Parts.{entry_board, entry_link, entry_state, exit_board, exit_link, exit_state}
+use Rattle.flow_task.specs.declared.board.Board.{Board}
+use Rattle.flow_task.specs.declared.numbered.Entry.{Entry}
+use Rattle.flow_task.specs.declared.numbered.Exit.{Exit}
 use Rattle.flow_board.proofs.AllLooked.{input_looked, looks_leave, received_looked}
-use Rattle.flow_board.proofs.InputPlaces.{input_placed}
+use Rattle.flow_task.proofs.InputPlaces.{input_placed}
 
 Views-set : IsSet SendView
 Views-set = Prim.hlevel (codes, content.the_row.coded)

@@ -31,9 +31,9 @@ use Rattle.flow_input.proofs.InputsAreParts.{inputs_are_parts}
 use Rattle.flow_moves.proofs.PlansRun.{plan_runs}
 use Rattle.flow_wire.specs.Ends.{is_crossing}
 use Rattle.flow_core.specs.Inputs.{input_of}
-use Rattle.flow_board.specs.Entries.{took_at}
+use Rattle.flow_task.specs.Entries.{took_at}
 use Rattle.flow_board.specs.Gathers.{KnowsTaken}
-use Rattle.flow_board.proofs.InputPlaces.{input_placed}
+use Rattle.flow_task.proofs.InputPlaces.{input_placed}
 
 -- all that was given was taken
 crossed_home : (phase : Phase) (target : TargetStage Value) (slot : Option Value) (given taken : List Value) → is_crossing phase ≡ false

@@ -1,8 +1,8 @@
 -- What there is room for before parts are taken apart.
 use Rattle.std.specs.Prelude.{◌≡◌, ◌≤◌, [], length, vec_capacity}
-use Rattle.flow_board.specs.Parts.{board_layout}
+use Rattle.flow_task.specs.Parts.{board_layout}
 use Rattle.flow_board.specs.declared.gathering.Apart.{Apart}
-use Rattle.flow_board.specs.declared.numbered.Parts.{Parts}
+use Rattle.flow_task.specs.declared.numbered.Parts.{Parts}
 
 pub record IsRoomToGather {W : Type 0} {w : _} {e : _} (parts : Parts W w e) (apart : Apart) : Type 0 where
   pub no_node : apart.blocks.nodes.items ≡ []

@@ -14,19 +14,19 @@ use Rattle.flow_core.specs.State.{NetState, exit_at}
 use Rattle.flow_core.specs.Statements.{IsReceivedOf}
 use Rattle.flow_input.specs.Sends.{sends_of}
 use Rattle.flow_net.specs.Net.{run_with}
-use Rattle.flow_board.specs.Begun.{begun_input}
-use Rattle.flow_board.specs.Entries.{took_at}
+use Rattle.flow_task.specs.Begun.{begun_input}
+use Rattle.flow_task.specs.Entries.{took_at}
 use Rattle.flow_link.specs.declared.trace.Mark.{Mark}
-use Rattle.flow_board.specs.Absent.{IsAbsent, NoTwoAlike}
-use Rattle.flow_board.specs.Numbers.{place_in, task_count}
-use Rattle.flow_board.specs.Parts.{board_layout, entry_link, entry_state, exit_link, exit_state, marks_in, task_number}
-use Rattle.flow_board.specs.declared.board.Board.{Board}
+use Rattle.flow_task.specs.Absent.{IsAbsent, NoTwoAlike}
+use Rattle.flow_task.specs.Numbers.{place_in, task_count}
+use Rattle.flow_task.specs.Parts.{board_layout, entry_link, entry_state, exit_link, exit_state, marks_in, task_number}
+use Rattle.flow_task.specs.declared.board.Board.{Board}
 use Rattle.flow_board.specs.declared.gathering.GatherFault.{GatherFault}
 use Rattle.flow_board.specs.declared.gathering.GatherFault.TheVariants.{Missing, Memory}
-use Rattle.flow_board.specs.declared.numbered.Entry.{Entry}
-use Rattle.flow_board.specs.declared.numbered.Exit.{Exit}
-use Rattle.flow_board.specs.declared.numbered.Parts.{Parts}
-use Rattle.flow_board.specs.declared.numbered.Task.{Task}
+use Rattle.flow_task.specs.declared.numbered.Entry.{Entry}
+use Rattle.flow_task.specs.declared.numbered.Exit.{Exit}
+use Rattle.flow_task.specs.declared.numbered.Parts.{Parts}
+use Rattle.flow_task.specs.declared.numbered.Task.{Task}
 
 module _ {W : Type 0} {w : _} {e : _} where
   -- these are the journals of the tasks, in the order of their numbers

@@ -1,9 +1,7 @@
 //! The parts of a scattered network are put together again.
-ghost use Rattle.std.specs.Prelude.{◌≡◌, ℕ, ◌<◌, ◌≤◌, All, [], get_or, length, map, take, vec_capacity, IfErr, IfOk};
-ghost use Rattle.std.specs.List.Sorted.{IsPermutation};
+ghost use Rattle.std.specs.Prelude.{◌≡◌, ◌<◌, All, get_or, length, map, take, IfErr, IfOk};
 ghost use Rattle.flow_lawful.specs.Lawful.{Lawful};
 ghost use Rattle.flow_lists.specs.Lists.{below};
-ghost use Rattle.flow_link.specs.Planned.{layout_of};
 ghost use Rattle.flow_block.specs.Planned.{links_out};
 ghost use Rattle.flow_core.specs.InOrder.{journals_of};
 ghost use Rattle.flow_core.specs.Inputs.{InputsStay};
@@ -12,24 +10,19 @@ ghost use Rattle.flow_exec.specs.Works.{works_of};
 ghost use Rattle.flow_exit.specs.Exit.{fresh_exit};
 ghost use Rattle.flow_input.specs.Input.{no_input};
 ghost use Rattle.flow_net.specs.Net.{layout_in, parts_of, run_of};
-ghost use Rattle.flow_board.specs.Absent.{AllThere};
-ghost use Rattle.flow_board.specs.Begun.{JournalsGoOn, ClosedInputsStay, begun_in};
-ghost use Rattle.flow_board.specs.Exits.{exit_due};
+ghost use Rattle.flow_task.specs.Absent.{AllThere};
+ghost use Rattle.flow_task.specs.Begun.{JournalsGoOn, ClosedInputsStay, begun_in};
+ghost use Rattle.flow_task.specs.Exits.{exit_due};
 ghost use Rattle.flow_board.specs.GatherRoom.{IsRoomToGather};
 ghost use Rattle.flow_board.specs.Gathers.{AreBack, EntryIsKept, ExitIsKept, GathersFrom, IsWhyNot};
-ghost use Rattle.flow_board.specs.Inputs.{input_due, links_of_inputs};
-ghost use Rattle.flow_board.specs.Known.{in_known, ins_due, out_known, outs_due};
-ghost use Rattle.flow_board.specs.Orders.{AreInOrder, HasLookedAround};
-ghost use Rattle.flow_board.specs.Parts.{AllEntriesOf, AllExitsOf, AllTasksOf, board_layout, marks_in};
-ghost use Rattle.flow_board.specs.Untouched.{AllUntouched};
+ghost use Rattle.flow_task.specs.Inputs.{input_due, links_of_inputs};
+ghost use Rattle.flow_task.specs.Known.{in_known, ins_due, out_known, outs_due};
+ghost use Rattle.flow_task.specs.Orders.{AreInOrder, HasLookedAround};
+ghost use Rattle.flow_task.specs.Parts.{AllEntriesOf, AllExitsOf, AllTasksOf, board_layout, board_wires, marks_in};
+ghost use Rattle.flow_task.specs.Untouched.{AllUntouched};
 
-use crate::apart::{Blocks, Exits, Inputs};
-use crate::board::Board;
-use crate::close::close_all;
-use crate::numbered::Parts;
-use crate::sources::Sources;
-use crate::targets::Targets;
 use flow_net::Net;
+use flow_task::{Blocks, Board, Exits, Inputs, Parts};
 use flow_value::Runs;
 use std::alloc::{AllocError, Global};
 use std::collections::VecDeque;
@@ -89,8 +82,8 @@ impl Apart {
     fn with_room<W: Runs>(alloc: Global, parts: &Parts<W>) -> Result<Apart, AllocError>
         ensures { IfOk result (λ apart. IsRoomToGather parts.now apart) }
     {
-        let blocks = parts.board.rest.plan.block_count();
-        let inputs = parts.board.opens.len();
+        let blocks = parts.board.block_count();
+        let inputs = parts.board.input_count();
         let exits = parts.exits.len();
         Ok(Apart {
             blocks: Blocks {
@@ -142,54 +135,33 @@ impl Apart {
         blocks.take(&board, &mut tasks);
         inputs.take(&board, &mut tasks, &mut entries);
         exit_ends.take(&board, exits);
-        board.join(blocks, inputs, exit_ends)
+        put_together(board, blocks, inputs, exit_ends)
     }
 }
 
-impl<W: Runs> Board<W> {
-    /// Closes the wires of a network with all its ends, and puts it together.
-    fn join(self, blocks: Blocks, inputs: Inputs, exits: Exits) -> Net<W>
-        ghost net: { NetState }
-        requires nodes { net.nodes ≡ blocks.nodes.items }
-        requires inputs { net.inputs ≡ inputs.inputs.items }
-        requires exits { net.exits ≡ exits.exits.items }
-        requires in_order { AreInOrder (layout_of self.rest.plan) (works_of W.meaning (layout_of self.rest.plan)) net.nodes net.inputs
-            net.exits }
-        requires outs { map (λ row. map out_known row.items) blocks.outs.items ≡ map (λ b. outs_due (layout_of self.rest.plan)
-            self.wires.items b (get_or net.nodes b no_node)) (below (length (layout_of self.rest.plan).blocks)) }
-        requires ins { map (λ ports. map (λ row. map in_known row.items) ports.items) blocks.ins.items ≡ map (λ b. ins_due
-            (layout_of self.rest.plan) self.wires.items b (get_or net.nodes b no_node))
-            (below (length (layout_of self.rest.plan).blocks)) }
-        requires input_ends { map out_known inputs.ends.items ≡ map (λ q. input_due (layout_of self.rest.plan) self.wires.items
-            (get_or (links_of_inputs (layout_of self.rest.plan)) q 0) (get_or net.inputs q no_input))
-            (below (length (links_of_inputs (layout_of self.rest.plan)))) }
-        requires exit_ends { map in_known exits.ends.items ≡ map (λ k. exit_due (layout_of self.rest.plan) self.wires.items
-            (get_or (links_out (layout_of self.rest.plan)) k 0) (get_or net.exits k fresh_exit))
-            (below (length (links_out (layout_of self.rest.plan)))) }
-        ensures same_layout { layout_in result ≡ layout_of self.rest.plan }
-        ensures lawful { Lawful (run_of W.meaning result) }
-        ensures journals { journals_of (parts_of result) ≡ map (λ node. node.journal) net.nodes }
-        ensures looked { HasLookedAround W.meaning (layout_of self.rest.plan) net (parts_of result) }
-    {
-        let Board {
-            mut rest,
-            wires,
-            ..
-        } = self;
-        let Blocks { nodes, outs, ins } = blocks;
-        let sources = Sources {
-            outs,
-            inputs: inputs.ends,
-        };
-        let targets = Targets {
-            ins,
-            exits: exits.ends,
-        };
-        let apart = &mut rest;
-        close_all(&apart.plan, wires, sources, targets, &mut apart.lines);
-        rest.nodes = nodes;
-        rest.inputs = inputs.inputs;
-        rest.exits = exits.exits;
-        rest.join()
-    }
+/// Closes the wires of a network with all its ends, and puts it together.
+fn put_together<W: Runs>(board: Board<W>, blocks: Blocks, inputs: Inputs, exits: Exits) -> Net<W>
+    ghost net: { NetState }
+    requires nodes { net.nodes ≡ blocks.nodes.items }
+    requires inputs { net.inputs ≡ inputs.inputs.items }
+    requires exits { net.exits ≡ exits.exits.items }
+    requires in_order { AreInOrder (board_layout board) (works_of W.meaning (board_layout board)) net.nodes net.inputs
+        net.exits }
+    requires outs { map (λ row. map out_known row.items) blocks.outs.items ≡ map (λ b. outs_due (board_layout board)
+        (board_wires board) b (get_or net.nodes b no_node)) (below (length (board_layout board).blocks)) }
+    requires ins { map (λ ports. map (λ row. map in_known row.items) ports.items) blocks.ins.items ≡ map (λ b. ins_due
+        (board_layout board) (board_wires board) b (get_or net.nodes b no_node))
+        (below (length (board_layout board).blocks)) }
+    requires input_ends { map out_known inputs.ends.items ≡ map (λ q. input_due (board_layout board) (board_wires board)
+        (get_or (links_of_inputs (board_layout board)) q 0) (get_or net.inputs q no_input))
+        (below (length (links_of_inputs (board_layout board)))) }
+    requires exit_ends { map in_known exits.ends.items ≡ map (λ k. exit_due (board_layout board) (board_wires board)
+        (get_or (links_out (board_layout board)) k 0) (get_or net.exits k fresh_exit))
+        (below (length (links_out (board_layout board)))) }
+    ensures same_layout { layout_in result ≡ board_layout board }
+    ensures lawful { Lawful (run_of W.meaning result) }
+    ensures journals { journals_of (parts_of result) ≡ map (λ node. node.journal) net.nodes }
+    ensures looked { HasLookedAround W.meaning (board_layout board) net (parts_of result) }
+{
+    Net::join(board.close(blocks, inputs, exits))
 }

@@ -1,8 +1,8 @@
 -- The second of some tasks is of their board.
 use Rattle.std.proofs.Common.{◌≡◌, ◌<◌, List, [], ◌∷◌, length, slice_index_or, ap, ◌∙◌, arith}
 use Rattle.flow_board.specs.Parts.{AllTasksOf, board_of}
-use Rattle.flow_board.specs.declared.board.Board.{Board}
-use Rattle.flow_board.specs.declared.numbered.Task.{Task}
+use Rattle.flow_task.specs.declared.board.Board.{Board}
+use Rattle.flow_task.specs.declared.numbered.Task.{Task}
 
 module _ {W : Type 0} {w : _} {e : _} (board : Board W) where
   pub second_of : (tasks : List (Task W w e)) (task : Task W w e) → AllTasksOf board tasks → 1 < length tasks

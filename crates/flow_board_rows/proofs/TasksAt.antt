@@ -3,8 +3,8 @@ use Rattle.std.proofs.Common.{◌≡◌, List, [], ◌∷◌, ◌++◌, ◌∙�
 use Rattle.flow_link.specs.declared.trace.Mark.{Mark}
 use Rattle.flow_poll.specs.Turns.{EachGoesOn, GoesFurther}
 use Rattle.flow_board.specs.At.{AllAt, IsSame, board_at}
-use Rattle.flow_board.specs.declared.at.TaskAt.{TaskAt}
-use Rattle.flow_board.specs.declared.board.Board.{Board}
+use Rattle.flow_task.specs.declared.at.TaskAt.{TaskAt}
+use Rattle.flow_task.specs.declared.board.Board.{Board}
 
 module _ {W : Type 0} {w : _} {e : _} (board : Board W) where
   -- one more

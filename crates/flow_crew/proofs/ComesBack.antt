@@ -5,8 +5,8 @@ use Rattle.flow_link.specs.declared.trace.Mark.{Mark}
 use Rattle.flow_poll.specs.Turns.{Extends}
 use Rattle.flow_poll.proofs.EachGoes.{extends_itself}
 use Rattle.flow_board.specs.Parts.{AllTasksOf}
-use Rattle.flow_board.specs.declared.board.Board.{Board}
-use Rattle.flow_board.specs.declared.numbered.Task.{Task}
+use Rattle.flow_task.specs.declared.board.Board.{Board}
+use Rattle.flow_task.specs.declared.numbered.Task.{Task}
 use Rattle.flow_crew.specs.Journals.{AllGoOn, EachBegins, NoneTwice, IsNotAmong, journal_at, journals}
 use Rattle.flow_crew.specs.Numbers.{SameNumbers}
 use Rattle.flow_crew.specs.Rounds.{AllIn, ComeBack}

@@ -8,7 +8,7 @@ use Rattle.std.proofs.Crossing.{crosses}
 use Rattle.std.specs.declared.cmp.Eq as decides
 use Rattle.std.specs.declared.cmp.PartialEq as eq
 use Rattle.flow_value.specs.declared.work.Runs as runs
-use Rattle.flow_board.specs.contracts.numbered.Task as task
+use Rattle.flow_task.specs.contracts.numbered.Task as task
 use Rattle.flow_crew.specs.declared.item.Round as round
 use Rattle.flow_crew.specs.contracts.item.Item as item
 use Rattle.flow_crew.specs.contracts.item.Item.TheInside as inside

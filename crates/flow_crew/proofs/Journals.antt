@@ -4,8 +4,8 @@ use Rattle.flow_link.specs.declared.trace.Mark.{Mark}
 use Rattle.flow_poll.specs.Turns.{Extends}
 use Rattle.flow_poll.proofs.EachGoes.{extends_further}
 use Rattle.flow_board.specs.Parts.{AllTasksOf, board_of, marks_in, task_number}
-use Rattle.flow_board.specs.declared.board.Board.{Board}
-use Rattle.flow_board.specs.declared.numbered.Task.{Task}
+use Rattle.flow_task.specs.declared.board.Board.{Board}
+use Rattle.flow_task.specs.declared.numbered.Task.{Task}
 use Rattle.flow_crew.specs.Journals.{EachBegins, journals}
 use Rattle.flow_crew.specs.Rounds.{AllIn, IsIn}
 

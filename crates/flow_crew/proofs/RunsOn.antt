@@ -20,9 +20,9 @@ use Rattle.flow_poll.proofs.EachGoes.{extends_itself}
 use Rattle.flow_board.specs.Begun.{JournalsExtend, begun_in}
 use Rattle.flow_board.specs.Parts.{AllEntriesOf, AllExitsOf, AllTasksOf, board_layout}
 use Rattle.flow_board.specs.Untouched.{AllUntouched, IsUntouched}
-use Rattle.flow_board.specs.declared.board.Board.{Board}
-use Rattle.flow_board.specs.declared.numbered.Entry.{Entry}
-use Rattle.flow_board.specs.declared.numbered.Parts.{Parts}
+use Rattle.flow_task.specs.declared.board.Board.{Board}
+use Rattle.flow_task.specs.declared.numbered.Entry.{Entry}
+use Rattle.flow_task.specs.declared.numbered.Parts.{Parts}
 use Rattle.flow_board.proofs.EventsGrow.{event_grows, extends_on, happened_grows}
 use Rattle.flow_crew.specs.Runs.{IsGatheredOf, IsLeft, IsLeftOf, IsScatteredOf, MayBeGathered, RunsOn}
 use Rattle.flow_crew.specs.declared.run.RunFault.{RunFault}

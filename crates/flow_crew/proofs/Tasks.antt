@@ -4,7 +4,7 @@ use native.Mathlib.Omega.{arith}
 use Rattle.std.proofs.lemmas.List.{reverse-append, length-reverse}
 use Rattle.crossbeam_queue.specs.Fifo.{Held}
 use Rattle.flow_board.specs.Parts.{task_number}
-use Rattle.flow_board.specs.declared.numbered.Task.{Task}
+use Rattle.flow_task.specs.declared.numbered.Task.{Task}
 use Rattle.flow_crew.specs.declared.rule.Hand.{Hand}
 use Rattle.flow_crew.specs.Numbers.{numbers, weigh}
 use Rattle.flow_crew.specs.Rules.{HasRoom}

@@ -3,7 +3,7 @@ use Rattle.std.specs.Prelude.{◌≡◌, ℕ, ◌==◌, false, if◌then◌else�
 use Rattle.flow_link.specs.declared.trace.Mark.{Mark}
 use Rattle.flow_poll.specs.Turns.{Extends}
 use Rattle.flow_board.specs.Parts.{marks_in, task_number}
-use Rattle.flow_board.specs.declared.numbered.Task.{Task}
+use Rattle.flow_task.specs.declared.numbered.Task.{Task}
 
 -- each journal begins with what is named for its number
 abbrev pub EachBegins : (ℕ → List Mark) → List (ℕ × List Mark) → Type 0

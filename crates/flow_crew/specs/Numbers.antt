@@ -1,7 +1,7 @@
 -- The numbers of tasks, each as often as it stands there.
 use Rattle.std.specs.Prelude.{◌≡◌, ℕ, ◌+◌, List, [], ◌∷◌}
 use Rattle.flow_board.specs.Parts.{task_number}
-use Rattle.flow_board.specs.declared.numbered.Task.{Task}
+use Rattle.flow_task.specs.declared.numbered.Task.{Task}
 
 -- the weights of the numbers, added up
 abbrev pub weigh : (ℕ → ℕ) → List ℕ → ℕ

@@ -2,8 +2,8 @@
 use Rattle.std.specs.Prelude.{◌≡◌, ℕ, List, [], ◌∷◌, Option, Some}
 use Rattle.flow_link.specs.declared.trace.Mark.{Mark}
 use Rattle.flow_board.specs.Parts.{AllTasksOf, board_of, marks_in, task_number}
-use Rattle.flow_board.specs.declared.board.Board.{Board}
-use Rattle.flow_board.specs.declared.numbered.Task.{Task}
+use Rattle.flow_task.specs.declared.board.Board.{Board}
+use Rattle.flow_task.specs.declared.numbered.Task.{Task}
 use Rattle.flow_crew.specs.Journals.{GoesOn, AllGoOn}
 use Rattle.flow_crew.specs.Numbers.{SameNumbers}
 

@@ -9,8 +9,8 @@ use Rattle.flow_net.specs.declared.net.Net.{Net}
 use Rattle.flow_board.specs.Begun.{JournalsExtend, begun_in}
 use Rattle.flow_board.specs.Parts.{AllEntriesOf, AllExitsOf, AllTasksOf, board_layout}
 use Rattle.flow_board.specs.Untouched.{AllUntouched}
-use Rattle.flow_board.specs.declared.board.Board.{Board}
-use Rattle.flow_board.specs.declared.numbered.Parts.{Parts}
+use Rattle.flow_task.specs.declared.board.Board.{Board}
+use Rattle.flow_task.specs.declared.numbered.Parts.{Parts}
 use Rattle.flow_crew.specs.declared.run.RunFault.{RunFault}
 use Rattle.flow_crew.specs.declared.run.RunFault.TheVariants as fault
 

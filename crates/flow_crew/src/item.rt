@@ -13,7 +13,7 @@ use std::marker::{Brand, Model, PhantomData};
 pub trait Round<W> {
     ghost use Rattle.std.specs.Prelude.{List, Option, ℕ};
     ghost use Rattle.flow_link.specs.declared.trace.Mark.{Mark};
-    ghost use Rattle.flow_board.specs.declared.board.Board.{Board};
+    ghost use Rattle.flow_task.specs.declared.board.Board.{Board};
 
     ghost board: { Option (Board W) };
 

@@ -43,7 +43,7 @@ use Rattle.flow_moves.proofs.PostsGoAlong.{input_place_is, posts_go_along}
 use Rattle.flow_moves.specs.Ready.{IsThere, SourceIsThere}
 use Rattle.flow_moves.specs.Ways.{posted_along, with_input_in}
 use Rattle.flow_net.specs.Happened.{Happened}
-use Rattle.flow_net.specs.Sights.{comes_from, is_entry_of}
+use Rattle.flow_apart.specs.Sights.{comes_from, is_entry_of}
 use Rattle.flow_net.proofs.KeptOn.{kept_on}
 
 pub from_so : {b : ℕ} (source : LinkSource) → comes_from b source ≡ true → source ≡ Input b

@@ -39,7 +39,7 @@ use Rattle.flow_exec.specs.Works.{works_of}
 use Rattle.flow_moves.proofs.PlansRun.{plan_runs}
 use Rattle.flow_moves.specs.Ways.{with_exit_in}
 use Rattle.flow_net.specs.Happened.{Happened}
-use Rattle.flow_net.specs.Sights.{is_exit_of}
+use Rattle.flow_apart.specs.Sights.{is_exit_of}
 use Rattle.flow_net.proofs.KeptOn.{kept_on}
 
 received_prop : (received given : List Value) → IsProp (IsReceivedOf received given)

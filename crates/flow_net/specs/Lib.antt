@@ -1,4 +1,3 @@
-pub mod Apart
 pub mod Dues
 pub mod Engine
 pub mod Entries
@@ -11,7 +10,6 @@ pub mod Opens
 pub mod OwnJobs
 pub mod Serves
 pub mod Settles
-pub mod Sights
 pub mod States
 pub mod Taken
 pub mod There

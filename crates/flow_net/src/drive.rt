@@ -5,13 +5,13 @@ ghost use Rattle.flow_core.specs.Events.{NetEvent};
 ghost use Rattle.flow_net.specs.Engine.{EnabledIn, GoesOnIn, HasDone, InOrder, NeedsIdIn, SettlesIn};
 ghost use Rattle.flow_net.specs.declared.fault.NetFault.TheVariants.{NotEnabled, Ids};
 
-use crate::agenda::Spot;
 use crate::crew::{Desk, Report, Task, channels, room_of, run_beside};
 use crate::due::Due;
 use crate::engine::Engine;
 use crate::fault::NetFault;
 use crate::settled::Settled;
 use crossbeam_channel::{Receiver, Sender};
+use flow_apart::Spot;
 use flow_value::Work;
 use std::alloc::Global;
 use std::sync::Wait;

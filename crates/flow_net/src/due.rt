@@ -1,5 +1,8 @@
 //! An event that a network does next, as its driver finds it.
+use flow_apart::{Agenda, Spot};
+use flow_block::Route;
 use flow_link::{LinkId, Move, PortId};
+use flow_moves::Parts;
 
 /// One thing that may happen at a link or at a block, by their numbers.
 #[derive(Clone, Copy)]
@@ -18,4 +21,23 @@ pub(crate) enum Due {
     Fault(usize),
     /// This block has given all, and ends.
     Done(usize),
+}
+
+/// Lists where something may be able to happen after this event.
+pub(crate) fn list_after(agenda: &mut Agenda, parts: &Parts, routes: &[Route], event: &Due) {
+    match *event {
+        Due::Link(id, next) => {
+            if let Some(route) = routes.get(id as usize) {
+                agenda.list_after_move(parts, route, &next);
+            }
+            agenda.list(Spot::Link(id));
+        }
+        Due::Make(number) | Due::Begin(number) | Due::End(number, _) => {
+            agenda.list_after_make(parts, number);
+        }
+        Due::Complete(number, _) | Due::Fault(number) | Due::Done(number) => {
+            agenda.list_round(parts, number);
+            agenda.list(Spot::Block(number));
+        }
+    }
 }

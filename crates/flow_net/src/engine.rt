@@ -8,10 +8,10 @@ ghost use Rattle.flow_core.specs.State.{node_at};
 ghost use Rattle.flow_net.specs.Dues.{IsEnd, IsEndOfJob, event_of};
 ghost use Rattle.flow_net.specs.declared.fault.NetFault.TheVariants.{NotEnabled, Ids, Memory};
 
-use crate::agenda::Agenda;
-use crate::due::Due;
+use crate::due::{Due, list_after};
 use crate::fault::NetFault;
 use crate::settled::Settled;
+use flow_apart::Agenda;
 use flow_block::Route;
 use flow_link::{LinkId, Move, Plan, step_of};
 use flow_moves::Parts;
@@ -170,7 +170,7 @@ impl<W: Runs> Engine<W> {
         ensures never { result ≢ Err NotEnabled }
     {
         self.carry_out(alloc, event)?;
-        self.agenda.list_after(&self.parts, &self.routes, event);
+        list_after(&mut self.agenda, &self.parts, &self.routes, event);
         Ok(())
     }
 

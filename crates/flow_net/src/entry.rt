@@ -10,12 +10,12 @@ ghost use Rattle.flow_input.specs.InputKeeps.{MayCallInput};
 ghost use Rattle.flow_input.specs.Sends.{after_told, has_id, is_idle, sends_of, takes_more, told_next};
 ghost use Rattle.flow_core.specs.State.{input_at};
 ghost use Rattle.flow_net.specs.Engine.{InOrder};
-ghost use Rattle.flow_net.specs.Sights.{is_entry_of};
+ghost use Rattle.flow_apart.specs.Sights.{is_entry_of};
 
-use crate::agenda::Spot;
 use crate::engine::Engine;
 use crate::net::Net;
 use crate::serve::{Caller, memory_of};
+use flow_apart::Spot;
 use flow_link::{Ending, Link, LinkId, LinkSource};
 use flow_poll::{SendFault, SendPort, Sent};
 use flow_value::{Runs, Value};

@@ -15,10 +15,10 @@ ghost use Rattle.flow_net.specs.Opens.{IsOpen};
 ghost use Rattle.flow_net.specs.There.{OffersAnId};
 ghost use Rattle.flow_net.specs.declared.fault.NetFault.TheVariants.{Ids};
 
-use crate::agenda::Spot;
 use crate::due::Due;
 use crate::engine::Engine;
 use crate::fault::NetFault;
+use flow_apart::{Spot, link_to_consume, link_to_offer};
 use flow_block::{Block, Route};
 use flow_input::Input;
 use flow_link::{LinkId, Move, PortId};
@@ -351,49 +351,4 @@ fn has_header(next: &Move) -> bool
         Move::Offer(header) => header.id() <= MAX_ID,
         _ => true,
     }
-}
-
-/// The link over which a block would offer next.
-pub(crate) fn link_to_offer(block: &Block) -> Option<LinkId> {
-    let place = block.offer_place()?;
-    if place < block.out_count() {
-        Some(block.out_link(place))
-    } else {
-        None
-    }
-}
-
-/// The link over which a port of a block would consume next.
-fn link_to_consume_at(block: &Block, port: usize) -> Option<LinkId>
-    requires { port < length block.now.ports }
-{
-    let place = block.next_place(port)?;
-    if place < block.in_count(port) {
-        Some(block.in_link(port, place))
-    } else {
-        None
-    }
-}
-
-/// The link over which the offer came that waits longest at a port.
-pub(crate) fn link_in_front(block: &Block, port: usize) -> Option<LinkId>
-    requires { port < length block.now.ports }
-{
-    let place = block.front(port)?;
-    if place < block.in_count(port) {
-        Some(block.in_link(port, place))
-    } else {
-        None
-    }
-}
-
-/// The link over which a block would consume next, at the first of its ports that would.
-pub(crate) fn link_to_consume(block: &Block) -> Option<LinkId> {
-    for port in 0..block.port_count() {
-        let link = link_to_consume_at(block, port);
-        if link.is_some() {
-            return link;
-        }
-    }
-    None
 }

@@ -1,7 +1,6 @@
 //! Networks of blocks that one owner drives: what is posted goes from block to block until nothing can move.
 #![tactic(auto)]
 
-mod agenda;
 mod crew;
 mod drive;
 mod due;
@@ -26,8 +25,8 @@ pub use entry::NetEntry;
 pub use event::{Event, Stepped};
 pub use exit::NetExit;
 pub use fault::NetFault;
+pub use flow_apart::NetParts;
 pub use flow_link::{Ending, Mark, Posted, are_numbered};
 pub use laws::{blocks_fault_by_number, works_fault_by_number};
 pub use net::Net;
-pub use parts::NetParts;
 pub use settled::{Settled, State};

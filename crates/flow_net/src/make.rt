@@ -11,10 +11,10 @@ ghost use Rattle.flow_exit.specs.Exit.{fresh_exit};
 ghost use Rattle.flow_core.specs.State.{fresh_line, fresh_net};
 ghost use Rattle.flow_link.specs.Posted.{input_of, ends_by_number};
 
-use crate::agenda::Agenda;
 use crate::engine::Engine;
 use crate::net::Net;
 use crate::order::hides_turns;
+use flow_apart::Agenda;
 use flow_block::{Node, Route, routes_of};
 use flow_exit::ExitEnd;
 use flow_input::Input;

@@ -1,40 +1,22 @@
 //! A network taken apart, and put together again.
-ghost use Rattle.std.specs.Prelude.{◌≡◌, ◌<◌, map, length};
+ghost use Rattle.std.specs.Prelude.{◌≡◌, ◌<◌, length};
 ghost use Rattle.flow_link.specs.Planned.{layout_of};
-ghost use Rattle.flow_lists.specs.Lists.{below};
-ghost use Rattle.flow_block.specs.Routes.{route_of};
 ghost use Rattle.flow_core.specs.InOrder.{NetInOrder, all_looked, journals_of, looked_at};
 ghost use Rattle.flow_exec.specs.Works.{works_of};
 ghost use Rattle.flow_net.specs.Engine.{InOrder};
 
-use crate::agenda::Agenda;
 use crate::engine::Engine;
 use crate::net::Net;
-use flow_block::{Node, Route};
-use flow_exit::ExitEnd;
-use flow_input::Input;
-use flow_link::{LinkId, LinkState, Plan};
+use flow_apart::NetParts;
+use flow_link::LinkId;
 use flow_moves::Parts;
 use flow_value::Runs;
 
-/// All that a network is made of: its blocks and links by their numbers, its inputs in the order of their blocks, and its exits in the
-/// order of their links.
-#[derive(Drop)]
-pub struct NetParts<W> {
-    pub plan: Plan<W>,
-    pub nodes: Vec<Node>,
-    pub inputs: Vec<Input>,
-    pub exits: Vec<ExitEnd>,
-    pub lines: Vec<LinkState>,
-    // What putting it together again would else need memory for.
-    routes: Vec<Route>,
-    agenda: Agenda,
-    ghost routed: { routes.items ≡ map (route_of (layout_of plan)) (below (length (layout_of plan).links)) },
-}
-
 impl<W: Runs> Net<W> {
-    ghost use Rattle.flow_net.specs.Apart.{apart_in, apart_layout};
-    ghost use Rattle.flow_net.specs.Net.{layout_in, parts_of};
+    ghost use Rattle.flow_lawful.specs.Lawful.{Lawful};
+    ghost use Rattle.flow_core.specs.Inputs.{InputsStay};
+    ghost use Rattle.flow_apart.specs.Apart.{apart_in, apart_layout};
+    ghost use Rattle.flow_net.specs.Net.{layout_in, parts_of, run_of};
 
     /// The parts of the network.
     pub fn into_parts(self) -> NetParts<W>
@@ -60,23 +42,16 @@ impl<W: Runs> Net<W> {
             agenda,
         }
     }
-}
-
-impl<W: Runs> NetParts<W> {
-    ghost use Rattle.flow_lawful.specs.Lawful.{Lawful};
-    ghost use Rattle.flow_core.specs.Inputs.{InputsStay};
-    ghost use Rattle.flow_net.specs.Apart.{apart_in, apart_layout};
-    ghost use Rattle.flow_net.specs.Net.{layout_in, parts_of, run_of};
 
     /// The network of these parts, whose ends may have looked at their links at any time: all of them look now. It takes no
     /// memory, and no mark is written.
-    pub fn join(self) -> Net<W>
-        requires { ∥ NetInOrder (apart_layout self) (works_of W.meaning (apart_layout self)) (apart_in self) ∥₁ }
-        ensures same_layout { layout_in result ≡ apart_layout self }
-        ensures looked { parts_of result ≡ all_looked (apart_layout self) (works_of W.meaning (apart_layout self))
-            (length (apart_layout self).links) (apart_in self) }
-        ensures inputs_stay { InputsStay (apart_in self) (parts_of result) }
-        ensures journals { journals_of (parts_of result) ≡ journals_of (apart_in self) }
+    pub fn join(apart: NetParts<W>) -> Net<W>
+        requires { ∥ NetInOrder (apart_layout apart) (works_of W.meaning (apart_layout apart)) (apart_in apart) ∥₁ }
+        ensures same_layout { layout_in result ≡ apart_layout apart }
+        ensures looked { parts_of result ≡ all_looked (apart_layout apart) (works_of W.meaning (apart_layout apart))
+            (length (apart_layout apart).links) (apart_in apart) }
+        ensures inputs_stay { InputsStay (apart_in apart) (parts_of result) }
+        ensures journals { journals_of (parts_of result) ≡ journals_of (apart_in apart) }
         ensures lawful { Lawful (run_of W.meaning result) }
     {
         let NetParts {
@@ -87,7 +62,7 @@ impl<W: Runs> NetParts<W> {
             lines,
             routes,
             agenda,
-        } = self;
+        } = apart;
         let parts = Parts::new(nodes, inputs, exits, lines);
         let mut engine = Engine {
             plan,

@@ -10,10 +10,10 @@ ghost use Rattle.flow_net.specs.Dues.{event_of};
 ghost use Rattle.flow_net.specs.Engine.{EnabledIn, HasDone, InOrder, IsDueIn, MayHappenIn, NeedsIdIn};
 ghost use Rattle.flow_net.specs.declared.fault.NetFault.TheVariants.{NotEnabled, Ids, Memory};
 
-use crate::agenda::Spot;
 use crate::due::Due;
 use crate::engine::Engine;
 use crate::fault::NetFault;
+use flow_apart::Spot;
 use flow_link::{LinkId, LinkSource, Move};
 use flow_value::Runs;
 use std::alloc::Global;

@@ -1,8 +1,8 @@
 -- Tasks of one board, by their places, in part and together.
 use Rattle.std.proofs.Common.{◌≡◌, ℕ, zero, suc, ◌<◌, List, [], ◌∷◌, ◌++◌, length, slice_index_or, set, take, drop, ap, sym, subst, ◌∙◌, arith}
 use Rattle.flow_board.specs.Parts.{AllTasksOf, board_of}
-use Rattle.flow_board.specs.declared.board.Board.{Board}
-use Rattle.flow_board.specs.declared.numbered.Task.{Task}
+use Rattle.flow_task.specs.declared.board.Board.{Board}
+use Rattle.flow_task.specs.declared.numbered.Task.{Task}
 
 module _ {W : Type 0} {w : _} {e : _} (board : Board W) where
   -- the task at a place

@@ -4,11 +4,11 @@ use Rattle.std.proofs.lemmas.List.Sorted.{All-permutation, IsPermutation-sym}
 use Rattle.flow_net.specs.Net.{parts_of}
 use Rattle.flow_core.specs.Inputs.{InputsStay}
 use Rattle.flow_core.specs.InOrder.{journals_of}
-use Rattle.flow_board.specs.Begun.{ClosedInputsStay, JournalsGoOn, begun_in}
+use Rattle.flow_task.specs.Begun.{ClosedInputsStay, JournalsGoOn, begun_in}
 use Rattle.flow_board.specs.Gathers.{EntryIsKept, ExitIsKept, GathersFrom}
-use Rattle.flow_board.specs.Untouched.{AllUntouched, IsUntouched}
-use Rattle.flow_board.specs.declared.board.Board.{Board}
-use Rattle.flow_board.proofs.Reordered.{entries_sorted, exits_sorted, tasks_sorted}
+use Rattle.flow_task.specs.Untouched.{AllUntouched, IsUntouched}
+use Rattle.flow_task.specs.declared.board.Board.{Board}
+use Rattle.flow_task.proofs.Reordered.{entries_sorted, exits_sorted, tasks_sorted}
 use Rattle.flow_board.proofs.gathering.gather.Goals as goal
 
 pub first_missing-requires-clause-tasks_of : goal.first_missing-requires-clause-tasks_of

@@ -9,9 +9,9 @@ use Rattle.flow_exec.specs.Works.{works_of}
 use Rattle.flow_moves.proofs.MerelyKept.{lawful_merely}
 use Rattle.flow_moves.proofs.PlansRun.{plan_runs}
 use Rattle.flow_net.specs.Net.{layout_in, parts_of}
-use Rattle.flow_board.specs.Begun.{JournalsExtend, begun_in}
+use Rattle.flow_task.specs.Begun.{JournalsExtend, begun_in}
 use Rattle.flow_board.specs.Home.{HasGoneOn}
-use Rattle.flow_board.specs.Parts.{marks_in}
+use Rattle.flow_task.specs.Parts.{marks_in}
 use Rattle.flow_board.proofs.EventsGrow.{gone_extends, same_extends}
 use Rattle.flow_board.proofs.scattering.scatter.Goals as goal
 

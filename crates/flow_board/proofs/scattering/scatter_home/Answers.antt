@@ -11,18 +11,18 @@ use Rattle.flow_block.specs.Node.{NodeState}
 use Rattle.flow_core.specs.InOrder.{NetInOrder, journals_of}
 use Rattle.flow_core.specs.State.{NetState, line_at}
 use Rattle.flow_exec.specs.Works.{works_of}
-use Rattle.flow_net.specs.Apart.{apart_in, apart_layout}
-use Rattle.flow_net.specs.declared.parts.NetParts.{NetParts}
+use Rattle.flow_apart.specs.Apart.{apart_in, apart_layout}
+use Rattle.flow_apart.specs.declared.parts.NetParts.{NetParts}
 use Rattle.flow_net.specs.Net.{layout_in, parts_of}
-use Rattle.flow_board.specs.Frames.{IsRoomFor}
-use Rattle.flow_board.specs.Orders.{AreInOrder}
-use Rattle.flow_board.specs.Begun.{begun_in}
+use Rattle.flow_task.specs.Frames.{IsRoomFor}
+use Rattle.flow_task.specs.Orders.{AreInOrder}
+use Rattle.flow_task.specs.Begun.{begun_in}
 use Rattle.flow_board.specs.Gathers.{KnowsTaken}
-use Rattle.flow_board.specs.Parts.{board_layout, marks_in}
+use Rattle.flow_task.specs.Parts.{board_layout, marks_in}
 use Rattle.flow_board.proofs.TakenAtHome.{knows_taken}
-use Rattle.flow_board.specs.Wired.{AreWired, idle, starts_of}
-use Rattle.flow_board.proofs.Orders.{in_order, in_parts}
-use Rattle.flow_board.proofs.Scatters.{all_ready, inputs_stay_by, kept_in_order, lines_many, moved, starts_same, wired_same}
+use Rattle.flow_task.specs.Wired.{AreWired, idle, starts_of}
+use Rattle.flow_task.proofs.Orders.{in_order, in_parts}
+use Rattle.flow_task.proofs.Scatters.{all_ready, inputs_stay_by, kept_in_order, lines_many, moved, starts_same, wired_same}
 use Rattle.flow_board.proofs.scattering.scatter_home.Goals as goal
 
 abbrev begun_by : {W : Type 0} → Snapshot (NetParts W) → NetState

@@ -1,6 +1,6 @@
 use Rattle.flow_link.specs.Planned.{layout_of}
-use Rattle.flow_net.specs.Apart.{apart_in}
-use Rattle.flow_board.specs.Wired.{starts_of}
+use Rattle.flow_apart.specs.Apart.{apart_in}
+use Rattle.flow_task.specs.Wired.{starts_of}
 use Rattle.flow_board.proofs.scattering.scatter_home.Given as goal
 
 abbrev pub ghost-wire_up : goal.ghost-wire_up

@@ -1,7 +1,7 @@
 use Rattle.std.proofs.Common.{sym, ◌∙◌, subst}
 use Rattle.flow_board.specs.At.{AllAt}
 use Rattle.flow_board.specs.Parts.{AllTasksOf}
-use Rattle.flow_board.proofs.Makes.{tasks_on}
+use Rattle.flow_task.proofs.Makes.{tasks_on}
 use Rattle.flow_board_rows.proofs.actors.tasks_of.Goals as goal
 
 pub loop-at-preserved : goal.loop-at-preserved

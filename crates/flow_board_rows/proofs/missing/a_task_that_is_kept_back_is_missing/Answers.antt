@@ -1,6 +1,6 @@
 use Rattle.std.proofs.Common.{rules, ◌<◌, length, sym, subst}
 use Rattle.flow_board.specs.Parts.{AllTasksOf}
-use Rattle.flow_board.proofs.Makes.{tasks_on}
+use Rattle.flow_task.proofs.Makes.{tasks_on}
 use Rattle.flow_board_rows.proofs.SecondTask.{second_of}
 use Rattle.flow_board_rows.proofs.missing.a_task_that_is_kept_back_is_missing.Goals as goal
 

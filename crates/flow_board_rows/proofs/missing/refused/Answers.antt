@@ -1,4 +1,4 @@
-use Rattle.flow_board.proofs.Reordered.{entries_stay, exits_stay, tasks_stay}
+use Rattle.flow_task.proofs.Reordered.{entries_stay, exits_stay, tasks_stay}
 use Rattle.flow_board_rows.proofs.missing.refused.Goals as goal
 
 pub returns-clause-tasks_of : goal.returns-clause-tasks_of

@@ -1,6 +1,6 @@
 use Rattle.std.proofs.Common.{sym, ◌∙◌, subst}
 use Rattle.flow_board.specs.Parts.{AllTasksOf}
-use Rattle.flow_board.proofs.Makes.{tasks_on}
+use Rattle.flow_task.proofs.Makes.{tasks_on}
 use Rattle.flow_board_rows.proofs.rounds.turn_first.Goals as goal
 
 pub loop-task-preserved : goal.loop-task-preserved

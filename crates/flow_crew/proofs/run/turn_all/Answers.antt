@@ -1,7 +1,7 @@
 use Rattle.std.proofs.Common.{Vec, sym, subst}
 use Rattle.flow_board.specs.Parts.{AllEntriesOf, AllExitsOf, AllTasksOf}
 use Rattle.flow_board.specs.Untouched.{AllUntouched}
-use Rattle.flow_board.specs.declared.board.Board.{Board}
+use Rattle.flow_task.specs.declared.board.Board.{Board}
 use Rattle.flow_crew.specs.Runs.{IsScatteredOf}
 use Rattle.flow_crew.proofs.ComesBack.{if_err, if_ok}
 use Rattle.flow_crew.proofs.RunsOn.{left_over, may_gather, runs_over}

@@ -16,21 +16,21 @@ use Rattle.flow_input.proofs.PostedKept.{posted_is_kept}
 use Rattle.flow_input.specs.Input.{no_input}
 use Rattle.flow_net.specs.Net.{parts_of}
 use Rattle.flow_poll.specs.Turns.{Extends}
-use Rattle.flow_board.specs.Begun.{begun_in, begun_journal}
-use Rattle.flow_board.specs.Events.{HasLooked, InputLooks}
-use Rattle.flow_board.specs.Inputs.{input_due, links_of_inputs}
-use Rattle.flow_board.specs.Lanes.{lane_count}
-use Rattle.flow_board.specs.Lefts.{EntryIsAt}
-use Rattle.flow_board.specs.Numbers.{closed_before, task_count}
-use Rattle.flow_board.specs.Parts.{AllTasksOf, marks_in, task_number}
-use Rattle.flow_board.specs.Untouched.{AllUntouched}
-use Rattle.flow_board.specs.declared.numbered.Entry.{Entry}
+use Rattle.flow_task.specs.Begun.{begun_in, begun_journal}
+use Rattle.flow_task.specs.Events.{HasLooked, InputLooks}
+use Rattle.flow_task.specs.Inputs.{input_due, links_of_inputs}
+use Rattle.flow_task.specs.Lanes.{lane_count}
+use Rattle.flow_task.specs.Lefts.{EntryIsAt}
+use Rattle.flow_task.specs.Numbers.{closed_before, task_count}
+use Rattle.flow_task.specs.Parts.{AllTasksOf, marks_in, task_number}
+use Rattle.flow_task.specs.Untouched.{AllUntouched}
+use Rattle.flow_task.specs.declared.numbered.Entry.{Entry}
 use Rattle.flow_board.proofs.AllLooked.{input_looked}
-use Rattle.flow_board.proofs.InputsStayed.{all_stay, closed_stay, looked_stays}
+use Rattle.flow_task.proofs.InputsStayed.{all_stay, closed_stay, looked_stays}
 use Rattle.flow_board.proofs.JournalsBegin.{journals_begin}
-use Rattle.flow_board.proofs.Makes.{numbers_behind, tasks_behind}
+use Rattle.flow_task.proofs.Makes.{numbers_behind, tasks_behind}
 use Rattle.flow_board.proofs.PartsKept.{entry_kept, exit_kept}
-use Rattle.flow_board.proofs.Reordered.{each_entry, each_exit}
+use Rattle.flow_task.proofs.Reordered.{each_entry, each_exit}
 use Rattle.flow_board.proofs.gathering.Apart.fill.Goals as goal
 
 pub take-requires-2-clause-of : goal.take-requires-2-clause-of
@@ -53,8 +53,8 @@ take-requires-2-clause-numbers g c =
     ∙ numbers_behind task_number 0 blocks behind c.args.parts.tasks.items (c.requires.there.tasks_are ∙ ap below all)
     ∙ ap (λ (n : ℕ). numbers_from n behind) first
 
-pub join-requires : goal.join-requires
-join-requires g c κs within =
+pub put_together-requires : goal.put_together-requires
+put_together-requires g c κs within =
     let board = c.args.parts.board in
     let layout = layout_of board.rest.plan in
     let wires = board.wires.items in
@@ -99,8 +99,8 @@ returns-clause-go_on g c = λ b small.
     let layout = layout_of board.rest.plan in
     let blocks = length layout.blocks in
     let tasks = c.args.parts.tasks.items in
-    let net = parts_of c.join.result in
-    let same = c.join.ensures.journals ∙ c.take.ensures.journals
+    let net = parts_of c.put_together.result in
+    let same = c.put_together.ensures.journals ∙ c.take.ensures.journals
     ∙ ap (λ (all : List _). map marks_in (take blocks all)) c.from_vec-tasks.ensures.items in
     let here = sym (get_or-map (λ (node : NodeState). node.journal) net.nodes b no_node)
     ∙ ap (λ (journals : List (List Mark)). get_or journals b []) same in
@@ -115,8 +115,8 @@ returns-clause-posted g c =
     let board = c.args.parts.board in
     let layout = layout_of board.rest.plan in
     let inputs = c.take-2.new.self.inputs.items in
-    let net = parts_of c.join.result in
-    let looked = c.join.ensures.looked in
+    let net = parts_of c.put_together.result in
+    let looked = c.put_together.ensures.looked in
     let start : NetState = record {
       nodes = c.take.new.self.nodes.items;
       inputs = inputs;
@@ -134,7 +134,7 @@ pub returns-clause-inputs_stay : goal.returns-clause-inputs_stay
 returns-clause-inputs_stay g c = λ untouched.
     let board = c.args.parts.board in
     let layout = layout_of board.rest.plan in
-    let looked = c.join.ensures.looked in
+    let looked = c.put_together.ensures.looked in
     let start : NetState = record {
       nodes = c.take.new.self.nodes.items;
       inputs = c.take-2.new.self.inputs.items;
@@ -142,16 +142,16 @@ returns-clause-inputs_stay g c = λ untouched.
       lines = looked.0;
     } in
     let all = subst (AllUntouched board) (sym c.from_vec-entries.ensures.items) untouched in
-    all_further (begun_in board) start (parts_of c.join.result)
+    all_further (begun_in board) start (parts_of c.put_together.result)
     (all_stay board start c.take-2.ensures.count (λ q low. c.take-2.ensures.posted q low (λ opened. all)))
     (subst (InputsStay start) (sym looked.1) (looks_leave_posted _ layout (works_of g.W.Runs.meaning layout) (length layout.links) start))
 
 pub returns-clause-entries : goal.returns-clause-entries
 returns-clause-entries g c =
     let board = c.args.parts.board in
-    let net = c.join.result in
+    let net = c.put_together.result in
     let entries = c.args.parts.entries.items in
-    let kept = subst (λ (lay : Layout _). ∥ NetKeeps lay (works_of g.W.Runs.meaning lay) (parts_of net) ∥₁) c.join.ensures.same_layout net.kept in
+    let kept = subst (λ (lay : Layout _). ∥ NetKeeps lay (works_of g.W.Runs.meaning lay) (parts_of net) ∥₁) c.put_together.ensures.same_layout net.kept in
     let mid : NetState = record {
       nodes = c.take.new.self.nodes.items;
       inputs = c.take-2.new.self.inputs.items;
@@ -162,15 +162,15 @@ returns-clause-entries g c =
     c.take-2.ensures.entries in
     λ k d low.
     let entry = slice_index_or entries k d in
-    entry_kept g.W.Runs.meaning board (parts_of net) mid kept c.join.ensures.looked entry
+    entry_kept g.W.Runs.meaning board (parts_of net) mid kept c.put_together.ensures.looked entry
     (each_entry board entries c.requires.entries_of k d low) (at k d low)
 
 pub returns-clause-exits : goal.returns-clause-exits
 returns-clause-exits g c =
     let board = c.args.parts.board in
-    let net = c.join.result in
+    let net = c.put_together.result in
     let exits = c.args.parts.exits.items in
-    let kept = subst (λ (lay : Layout _). ∥ NetKeeps lay (works_of g.W.Runs.meaning lay) (parts_of net) ∥₁) c.join.ensures.same_layout net.kept in
+    let kept = subst (λ (lay : Layout _). ∥ NetKeeps lay (works_of g.W.Runs.meaning lay) (parts_of net) ∥₁) c.put_together.ensures.same_layout net.kept in
     let mid : NetState = record {
       nodes = c.take.new.self.nodes.items;
       inputs = c.take-2.new.self.inputs.items;
@@ -179,5 +179,5 @@ returns-clause-exits g c =
     } in
     λ k d low.
     let exit = slice_index_or exits k d in
-    exit_kept g.W.Runs.meaning board (parts_of net) mid kept c.join.ensures.looked exit
+    exit_kept g.W.Runs.meaning board (parts_of net) mid kept c.put_together.ensures.looked exit
     (each_exit board exits c.requires.exits_of k d low) (c.take-3.ensures.exits k d low)

@@ -1,0 +1,3 @@
+pub mod Agendas
+pub mod Apart
+pub mod Sights

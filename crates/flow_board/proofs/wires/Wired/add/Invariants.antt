@@ -1,4 +1,0 @@
-use Rattle.flow_board.proofs.wires.Wired.add.Given as goal
-
-abbrev pub ghost-new : goal.ghost-new
-ghost-new g a = g.start

@@ -1,0 +1,20 @@
+use Rattle.std.proofs.Common.{sym, ap, ◌∙◌, subst}
+use Rattle.flow_link.specs.Planned.{layout_of}
+use Rattle.flow_input.specs.Input.{InputState}
+use Rattle.flow_input.specs.InputKeeps.{InputLaw}
+use Rattle.flow_task.specs.Inputs.{input_due}
+use Rattle.flow_task.proofs.EntrySteps.{parcel_law}
+use Rattle.flow_task.proofs.input_task.InputTask.put_parcel.Goals as goal
+
+pub invariant_of-self : goal.invariant_of-self
+invariant_of-self g c =
+    let s = c.args.self.now in
+    let layout = layout_of s.of.value.rest.plan in
+    let wires = s.of.value.wires.items in
+    let is = c.put_parcel.ensures in
+    record {
+      there = s.there;
+      begins = s.begins;
+      law = subst (λ (input : InputState). ∥ InputLaw input ∥₁) (sym is) (parcel_law layout wires s.link s.input s.law);
+      knows = s.knows ∙ ap (input_due layout wires s.link) (sym is);
+    }

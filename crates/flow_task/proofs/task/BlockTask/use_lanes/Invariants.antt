@@ -1,0 +1,16 @@
+use Rattle.std.proofs.Common.{◌≡◌}
+use Rattle.flow_task.specs.Events.{Spends}
+use Rattle.flow_task.specs.Tasks.{makes_of}
+use Rattle.flow_task.proofs.task.BlockTask.use_lanes.Given as goal
+
+-- it is the same block, and this was spent
+abbrev pub invariant-loop-left : goal.invariant-loop-left
+invariant-loop-left g l = record {
+  of : l.self.of.value ≡ l.fn.self.of.value;
+  number : l.self.number ≡ l.fn.self.number;
+  note : l.self.note ≡ l.fn.self.note;
+  spends : Spends (makes_of g.W.Runs.meaning l.fn.self) l.fn.left l.left l.fn.self.node l.self.node;
+}
+
+abbrev pub decreases-loop-left : goal.decreases-loop-left
+decreases-loop-left g l = l.left

@@ -1,0 +1,21 @@
+-- What a turn of a task comes to.
+use Rattle.std.specs.Prelude.{◌≡◌, ℕ, List, Result}
+use Rattle.flow_value.specs.declared.value.Value.{Value}
+use Rattle.flow_value.specs.declared.work.WorkFault.{WorkFault}
+use Rattle.flow_task.specs.Events.{AllLook, HasEvent, InputHappens, InputLooks, TurnsBy}
+use Rattle.flow_task.specs.Tasks.{makes_of}
+use Rattle.flow_task.specs.declared.numbered.Kind.{Kind}
+use Rattle.flow_task.specs.declared.numbered.Kind.TheVariants as kind
+use Rattle.flow_task.specs.declared.numbered.Task.{Task}
+
+module _ {W : Type 0} {w : _} {e : _} (meaning : W → Value → Result (List Value) WorkFault) where
+  abbrev pub TurnedBy : ℕ → Kind W w e → Kind W w e → Type 0
+  TurnedBy n (kind.Block old) (kind.Block new) =
+      ∥ TurnsBy AllLook (HasEvent (makes_of meaning old.block)) n old.block.node new.block.node ∥₁
+  TurnedBy n (kind.Input old) (kind.Input new) = ∥ TurnsBy InputLooks InputHappens n old.input new.input ∥₁
+  TurnedBy n (kind.Lane old) (kind.Lane new) = n ≡ 0
+  TurnedBy n _ _ = ⊥
+
+  -- so many events happened, each of which came next, and its ends looked before, between and behind them; what a lane does is none
+  abbrev pub HasTurned : ℕ → Task W w e → Task W w e → Type 0
+  HasTurned n old new = TurnedBy n old.kind new.kind
