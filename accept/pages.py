@@ -188,12 +188,17 @@ def missing_functions(tree, code, crates):
 
 
 def other_example(tree, text):
-    """The program in README.md is that of the example, whole."""
+    """The program in README.md is that of the example, whole: but that is a module, whose `main` is not private, and its root has the tactics."""
     shown = re.search(r"```rust\n(.*?)```", text, re.S)
-    path = "crates/example_chain/src/main.rt"
-    if shown is None or not tree.has(path) or shown.group(1) != tree.text(path):
+    path = "crates/examples/src/chain.rt"
+    if shown is None or not tree.has(path) or shown.group(1) != program_of(tree.text(path)):
         return [f"the program is not that of {path}"]
     return []
+
+
+def program_of(module):
+    """The program that is an example's module."""
+    return module.replace("\n\n", "\n#![tactic(auto)]\n\n", 1).replace("\npub(crate) fn main(", "\nfn main(")
 
 
 def check(part, top):

@@ -1,5 +1,0 @@
-use Rattle.flow_board.specs.Parts.{AllTasksOf}
-use Rattle.flow_board_bench.proofs.rounds.turn_each.Given as goal
-
-abbrev pub invariant-loop-place : goal.invariant-loop-place
-invariant-loop-place l = AllTasksOf l.board l.tasks.items

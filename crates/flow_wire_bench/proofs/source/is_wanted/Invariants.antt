@@ -1,7 +1,0 @@
-use Rattle.std.proofs.Common.{◌≡◌}
-use Rattle.flow_link.specs.Views.{SourceStage}
-use Rattle.flow_wire_bench.proofs.source.is_wanted.Given as goal
-
-abbrev pub invariant-loop-look : goal.invariant-loop-look
-invariant-loop-look l =
-    (l.end.table ≡ l.wire) × (l.end.table ≡ l.initial.end.table) × (l.end.side.facts ≡ l.initial.end.side.facts) × (l.end.side.view.stage ≡ SourceStage.out l.fn.header)
