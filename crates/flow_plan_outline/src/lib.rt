@@ -2,7 +2,7 @@
 #![tactic(auto)]
 
 use flow_link::{BlockDef, BlockKind, Link, LinkSource, LinkTarget, Plan};
-use flow_outline::{Admits, BlockOutline, Kind, LinkOutline, Outline};
+use flow_outcome::{Admits, BlockOutline, Kind, LinkOutline, Outline};
 use flow_value::When;
 use std::alloc::{AllocError, Global};
 

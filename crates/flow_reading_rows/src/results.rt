@@ -1,7 +1,7 @@
 //! Results in each form.
 use crate::check::check;
 use crate::reports::IMPORT;
-use flow_results::{ResultsForm, write_results};
+use flow_outcome::{ResultsForm, write_results};
 use std::alloc::Global;
 use std::test::Fail;
 

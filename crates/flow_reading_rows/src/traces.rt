@@ -1,8 +1,8 @@
 //! Where values were in a run.
 use crate::check::check;
 use crate::reports;
+use flow_outcome::write_trace;
 use flow_reading::read_report;
-use flow_verdict::write_trace;
 use std::alloc::Global;
 use std::test::Fail;
 

@@ -1,6 +1,6 @@
 //! Reports of parts that are merged, and those that are not.
 use crate::check::check;
-use flow_merge::{MergeFault, merge_reports, worst_status};
+use flow_outcome::{MergeFault, merge_reports, worst_status};
 use flow_pieces::cut_records;
 use flow_plan_outline::outline_of;
 use flow_reading::{Report, read_report};

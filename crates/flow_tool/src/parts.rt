@@ -3,8 +3,7 @@ use crate::files::{STANDARD_INPUT, read_file, read_network, read_text_report};
 use crate::output::{finish, output};
 use crate::stop::Stop;
 use clap::ArgMatches;
-use flow_merge::{MergeFault, merge_reports, worst_status};
-use flow_outline::Outline;
+use flow_outcome::{MergeFault, Outline, merge_reports, worst_status};
 use flow_pieces::{PieceFault, cut_records, deal_by_key};
 use flow_plan_outline::outline_of;
 use flow_reading::Report;
@@ -30,11 +29,11 @@ pub fn split<R: Files + Input + Print + AllocGlobal>(
     let name = given.get_str("name").unwrap_or(default);
     if given.get_flag("by-key") {
         match deal_by_key(alloc, &records, parts) {
-            Ok(pieces) => {
-                let pieces: Vec<&[u8]> = pieces
-                    .iter()
-                    .map(|piece| piece.as_slice())
-                    .collect(alloc)?;
+            Ok(texts) => {
+                let mut pieces = Vec::with_capacity(alloc, texts.len())?;
+                for text in &texts {
+                    pieces.push(text.as_slice())?;
+                }
                 write_pieces(rt, name, &pieces)
             }
             Err(fault) => Err(uncut(path, fault)),

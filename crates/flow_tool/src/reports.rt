@@ -3,12 +3,12 @@ use crate::files::{read_file, read_network, read_text_report};
 use crate::output::{finish, output};
 use crate::stop::Stop;
 use clap::ArgMatches;
-use flow_drawing::{DrawError, DrawStyle, write_drawing};
-use flow_outline::Outline;
+use flow_outcome::{
+    DrawStyle, Outline, ResultsError, ResultsForm, TellFault, write_drawing, write_results,
+    write_trace, write_verdict,
+};
 use flow_plan_outline::outline_of;
 use flow_reading::Report;
-use flow_results::{ResultsError, ResultsForm, write_results};
-use flow_verdict::{VerdictError, write_trace, write_verdict};
 use std::alloc::AllocError;
 use std::fs::Files;
 use std::io::Input;
@@ -53,8 +53,15 @@ fn print_drawing<R: Print + AllocGlobal>(
     let mut writer = output(rt)?;
     match write_drawing(outline, report, style, &mut writer) {
         Ok(()) => finish(writer, 0),
-        Err(DrawError::Write) => Err(Stop::no_output()),
-        Err(DrawError::Misfit(misfit)) => Err(Stop::refused(path, &misfit)),
+        Err(fault) => Err(untold(path, fault)),
+    }
+}
+
+/// What it comes to that nothing is told of a network and the report in the file of this name.
+fn untold(path: &str, fault: TellFault) -> Stop {
+    match fault {
+        TellFault::Write => Stop::no_output(),
+        TellFault::Misfit(misfit) => Stop::refused(path, &misfit),
     }
 }
 
@@ -71,8 +78,7 @@ pub fn why<R: Files + Input + Print + AllocGlobal>(
     let mut writer = output(rt)?;
     match write_verdict(&outline, &report, &mut writer) {
         Ok(status) => finish(writer, status),
-        Err(VerdictError::Write) => Err(Stop::no_output()),
-        Err(VerdictError::Misfit(misfit)) => Err(Stop::refused(path, &misfit)),
+        Err(fault) => Err(untold(path, fault)),
     }
 }
 

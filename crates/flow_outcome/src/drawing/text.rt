@@ -1,0 +1,92 @@
+//! A network as lines of text.
+use crate::drawing::notes::{
+    reported, write_counts, write_crossed, write_options, write_state, write_terms,
+};
+use crate::outline::{BlockOutline, LinkOutline, Outline};
+use flow_reading::{BlockReport, Report, State};
+use std::io;
+use std::io::Write;
+
+/// Writes a line for each block, and under it one for each of its links.
+pub(crate) fn write_text<W: Write>(
+    outline: &Outline,
+    report: Option<&Report>,
+    coloured: bool,
+    writer: &mut W,
+) -> io::Result<()> {
+    for (number, block) in outline.blocks.iter().enumerate() {
+        write_block(writer, block, reported(report, number), coloured)?;
+        write_links(writer, outline, report, number)?;
+    }
+    Ok(())
+}
+
+fn write_block<W: Write>(
+    writer: &mut W,
+    block: &BlockOutline,
+    reported: Option<&BlockReport>,
+    coloured: bool,
+) -> io::Result<()> {
+    let name = block.name;
+    if coloured {
+        write!(writer, "\x1b[1m{name}\x1b[0m  ")?;
+    } else {
+        write!(writer, "{name}  ")?;
+    }
+    write_options(writer, block)?;
+    if let Some(reported) = reported {
+        writer.write_all(b": ")?;
+        write_shown(writer, reported.state, coloured)?;
+        write_counts(writer, reported)?;
+    }
+    writer.write_all(b"\n")
+}
+
+/// Writes a state: green where the block is done, red where it faulted, and yellow where it is neither.
+fn write_shown<W: Write>(writer: &mut W, state: State, coloured: bool) -> io::Result<()> {
+    if !coloured {
+        return write_state(writer, state);
+    }
+    writer.write_all(match state {
+        State::Done => b"\x1b[32m",
+        State::Faulted(_) => b"\x1b[31m",
+        State::Open | State::Completing => b"\x1b[33m",
+    })?;
+    write_state(writer, state)?;
+    writer.write_all(b"\x1b[0m")
+}
+
+/// Writes the lines of the links out of a block.
+fn write_links<W: Write>(
+    writer: &mut W,
+    outline: &Outline,
+    report: Option<&Report>,
+    block: usize,
+) -> io::Result<()> {
+    for (number, link) in outline.links.iter().enumerate() {
+        if link.from == block {
+            write_link(writer, outline, number, link)?;
+            write_crossed(writer, outline, report, number, ": ")?;
+            writer.write_all(b"\n")?;
+        }
+    }
+    Ok(())
+}
+
+fn write_link<W: Write>(
+    writer: &mut W,
+    outline: &Outline,
+    number: usize,
+    link: &LinkOutline,
+) -> io::Result<()> {
+    write!(writer, "  link {number} -> ")?;
+    if let Some(target) = outline.blocks.get(link.to) {
+        let name = target.name;
+        let port = link.port;
+        write!(writer, "{name}")?;
+        if target.ports > 1 {
+            write!(writer, " port {port}")?;
+        }
+    }
+    write_terms(writer, link)
+}

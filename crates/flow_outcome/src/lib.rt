@@ -1,0 +1,25 @@
+//! A network as people are told of it, and what became of it by the report of a run: drawings, why the run ended so, where a
+//! value was, what actions recorded, and reports of parts as that of the whole.
+#![tactic(auto)]
+
+mod admits;
+mod drawing;
+mod fault;
+mod fit;
+mod kind;
+mod merge;
+mod outline;
+mod results;
+mod trace;
+mod verdict;
+
+pub use admits::Admits;
+pub use drawing::{DrawStyle, write_drawing};
+pub use fault::TellFault;
+pub use fit::{Misfit, check_fit};
+pub use kind::Kind;
+pub use merge::{MergeFault, merge_reports, report_status, worst_status};
+pub use outline::{BlockOutline, LinkOutline, Outline, given_over};
+pub use results::{ResultsError, ResultsForm, write_results};
+pub use trace::write_trace;
+pub use verdict::write_verdict;
