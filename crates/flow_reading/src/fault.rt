@@ -3,7 +3,7 @@ use std::alloc::{AllocError, AllocFailed};
 use thiserror::Error;
 
 /// What is wrong with a line of a text that should be a report.
-#[derive(Clone, Copy, Debug, PartialEq, Eq, Error)]
+#[derive(Clone, Copy, Debug, Error)]
 pub enum ReportFault {
     /// The line is no UTF-8.
     #[error("the line is no UTF-8")]
@@ -32,7 +32,7 @@ pub enum ReportFault {
 }
 
 /// Why a report can't be read.
-#[derive(Clone, Copy, Debug, PartialEq, Eq, Error)]
+#[derive(Clone, Copy, Debug, Error)]
 pub enum ReadError {
     /// This line, from 1, has a fault.
     #[error("line {line}: {fault}")]

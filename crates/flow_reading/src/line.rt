@@ -133,7 +133,7 @@ impl<'a> Lines<'a> {
 }
 
 /// What stands behind these words in a text that begins with them.
-fn behind<'a>(text: &'a [u8], words: &[u8]) -> Option<&'a [u8]>
+pub(crate) fn behind<'a>(text: &'a [u8], words: &[u8]) -> Option<&'a [u8]>
     ensures { MatchOption result ((rest : List ℕ) → text.now ≢ words.now ++ rest)
         (λ rest. text.now ≡ words.now ++ rest.now) }
 {
@@ -152,7 +152,7 @@ fn split_line(text: &[u8]) -> Option<(&[u8], &[u8])>
 pub(crate) fn split_word(text: &[u8]) -> Option<(&[u8], &[u8])>
     ensures { IfSome result (λ found. text.now ≡ found.0.now ++ 32 ∷ found.1.now) }
 {
-    let at = text.iter().position(|byte| *byte == b' ')?;
+    let at = memchr(b' ', text)?;
     Some((&text[..at], &text[at + 1..]))
 }
 

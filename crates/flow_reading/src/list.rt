@@ -5,14 +5,14 @@ ghost use Rattle.flow_reading.specs.Printed.{list_text};
 use crate::token::{Token, first_token};
 
 /// A list of values, as a piece of a report.
-#[derive(Clone, Copy, PartialEq, Eq)]
+#[derive(Clone, Copy)]
 pub struct PrintedList<'a> {
     text: &'a [u8],
     count: usize,
 }
 
 /// What a value is.
-#[derive(Clone, Copy, PartialEq, Eq)]
+#[derive(Clone, Copy)]
 pub enum ValueKind {
     /// An integer of 64 bits: digits, with `-` in front if it is negative.
     Int,
@@ -23,7 +23,7 @@ pub enum ValueKind {
 }
 
 /// A value, as a piece of a report.
-#[derive(Clone, Copy, PartialEq, Eq)]
+#[derive(Clone, Copy)]
 pub struct PrintedValue<'a> {
     pub kind: ValueKind,
     /// What is printed of the value, with quotes or brackets.
@@ -37,7 +37,7 @@ pub struct PrintedValues<'a> {
 }
 
 /// What stands before a place in a list.
-#[derive(Clone, Copy, PartialEq, Eq)]
+#[derive(Clone, Copy)]
 enum Before {
     Nothing,
     Open,
@@ -60,7 +60,7 @@ impl Scan {
             Token::Open => self.behind_open(),
             Token::Close => self.behind_close(),
             Token::Comma => {
-                if self.before == Before::Value && self.depth > 0 {
+                if !self.takes_value() && self.depth > 0 {
                     Some(Scan {
                         before: Before::Comma,
                         ..self
@@ -139,7 +139,7 @@ pub(crate) fn read_list(text: &[u8]) -> Option<PrintedList<'_>>
         scan = scan.behind(token)?;
         rest = &rest[len..];
     }
-    if rest.is_empty() && scan.before == Before::Value && scan.depth == 0 {
+    if rest.is_empty() && !scan.takes_value() && scan.depth == 0 {
         Some(PrintedList {
             text,
             count: scan.count,

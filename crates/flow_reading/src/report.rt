@@ -1,12 +1,12 @@
 //! Reads a whole report.
-ghost use Rattle.std.specs.Prelude.{◌≡◌, ◌++◌, codes, IfOk};
+ghost use Rattle.std.specs.Prelude.{◌≡◌, ◌++◌, codes, IfOk, IfSome};
 ghost use Rattle.std.specs.List.{flat_map};
 ghost use Rattle.flow_reading.specs.Line.{line_text};
 ghost use Rattle.flow_reading.specs.Printed.{numbered_text, state_text, settled_text, ports_text, link_text, kept_text};
 ghost use Rattle.flow_reading.specs.Printed.{title_text, body_text, report_text};
 
 use crate::fault::{ReadError, ReportFault};
-use crate::line::{Lines, number_of, split_word};
+use crate::line::{Lines, behind, number_of, split_word};
 use crate::list::PrintedList;
 use std::alloc::Global;
 
@@ -14,7 +14,7 @@ use std::alloc::Global;
 const LONGEST_NAME: usize = 64;
 
 /// How a block ended.
-#[derive(Clone, Copy, PartialEq, Eq)]
+#[derive(Clone, Copy)]
 pub enum State {
     /// It would take more.
     Open,
@@ -26,7 +26,7 @@ pub enum State {
 }
 
 /// How a run ended.
-#[derive(Clone, Copy, PartialEq, Eq)]
+#[derive(Clone, Copy)]
 pub enum Settled {
     /// Nothing could move any more.
     Quiet,
@@ -35,7 +35,7 @@ pub enum Settled {
 }
 
 /// What a block took at a port.
-#[derive(Clone, Copy, PartialEq, Eq)]
+#[derive(Clone, Copy)]
 pub struct PortReport<'a> {
     pub taken: PrintedList<'a>,
     /// What it took there and is not done with.
@@ -43,7 +43,7 @@ pub struct PortReport<'a> {
 }
 
 /// What a block gave over a link.
-#[derive(Clone, Copy, PartialEq, Eq)]
+#[derive(Clone, Copy)]
 pub struct LinkReport<'a> {
     /// The number of the link in its network.
     pub number: u32,
@@ -51,7 +51,7 @@ pub struct LinkReport<'a> {
 }
 
 /// What a block keeps at the end.
-#[derive(Clone, Copy, PartialEq, Eq)]
+#[derive(Clone, Copy)]
 pub enum Kept<'a> {
     /// The results of an action.
     Record(PrintedList<'a>),
@@ -108,13 +108,22 @@ fn check_utf8(text: &[u8]) -> Result<(), ReadError> {
         Ok(_) => Ok(()),
         Err(error) => {
             let valid = &text[..error.valid_up_to()];
-            let line = valid.iter().filter(|byte| **byte == b'\n').count();
             Err(ReadError::Fault {
-                line: line.saturating_add(1),
+                line: line_feeds(valid).saturating_add(1),
                 fault: ReportFault::NotUtf8,
             })
         }
     }
+}
+
+fn line_feeds(text: &[u8]) -> usize {
+    let mut count = 0usize;
+    for byte in text {
+        if *byte == b'\n' {
+            count = count.saturating_add(1);
+        }
+    }
+    count
 }
 
 /// Reads the last line.
@@ -163,14 +172,25 @@ fn read_block<'a>(
 fn read_name<'a>(lines: &Lines<'a>, name: &'a [u8]) -> Result<&'a str, ReadError>
     ensures { IfOk result (λ read. read.now ≡ name.now) }
 {
-    let has_form = !name.is_empty() && name.len() <= LONGEST_NAME && name.iter().all(is_of_name);
+    if !is_name(name) {
+        return Err(lines.last(ReportFault::Name));
+    }
     match str::from_utf8(name) {
-        Ok(name) if has_form => Ok(name),
-        _ => Err(lines.last(ReportFault::Name)),
+        Ok(name) => Ok(name),
+        Err(_) => Err(lines.last(ReportFault::Name)),
     }
 }
 
-fn is_of_name(byte: &u8) -> bool {
+fn is_name(name: &[u8]) -> bool {
+    for byte in name {
+        if !is_of_name(*byte) {
+            return false;
+        }
+    }
+    !name.is_empty() && name.len() <= LONGEST_NAME
+}
+
+fn is_of_name(byte: u8) -> bool {
     byte.is_ascii_alphanumeric() || matches!(byte, b'_' | b'-' | b'.')
 }
 
@@ -181,11 +201,18 @@ fn read_state(lines: &Lines, state: &[u8]) -> Result<State, ReadError>
         b"open" => Ok(State::Open),
         b"completing" => Ok(State::Completing),
         b"done" => Ok(State::Done),
-        _ => match state.strip_prefix(b"faulted ").and_then(number_of) {
-            Some(number) => Ok(State::Faulted(number)),
+        _ => match read_faulted(state) {
+            Some(faulted) => Ok(faulted),
             None => Err(lines.last(ReportFault::State)),
         },
     }
+}
+
+fn read_faulted(state: &[u8]) -> Option<State>
+    ensures { IfSome result (λ read. state.now ≡ state_text read) }
+{
+    let number = number_of(behind(state, b"faulted ")?)?;
+    Some(State::Faulted(number))
 }
 
 fn read_ports<'a>(alloc: Global, lines: &mut Lines<'a>) -> Result<Vec<PortReport<'a>>, ReadError>

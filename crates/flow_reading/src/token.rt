@@ -2,7 +2,7 @@
 ghost use Rattle.std.specs.Prelude.{◌≡◌, ℕ, ◌<◌, ◌≤◌, length, true, IfSome};
 
 /// A piece of a printed list.
-#[derive(Clone, Copy, PartialEq, Eq)]
+#[derive(Clone, Copy)]
 pub(crate) enum Token {
     Open,
     Close,
@@ -47,7 +47,12 @@ fn int_len(text: &[u8]) -> Option<usize>
 fn digit_count(text: &[u8]) -> usize
     ensures { result ≤ length text.now }
 {
-    text.iter().take_while(|byte| byte.is_ascii_digit()).count()
+    for (at, byte) in text.iter().enumerate() {
+        if !byte.is_ascii_digit() {
+            return at;
+        }
+    }
+    text.len()
 }
 
 /// Whether an integer of 64 bits is printed with these digits.
@@ -68,7 +73,7 @@ fn is_in_range(is_negative: bool, digits: &[u8]) -> bool {
 }
 
 /// Where within a text between double quotes a place is.
-#[derive(Clone, Copy, PartialEq, Eq)]
+#[derive(Clone, Copy)]
 enum Within {
     Plain,
     /// Behind a backslash.
@@ -85,10 +90,12 @@ fn quoted_len(text: &[u8]) -> Option<usize>
 {
     let mut within = Within::Plain;
     for (at, byte) in text.iter().enumerate().skip(1) {
-        if within == Within::Plain && *byte == b'"' {
-            return Some(at + 1);
+        match (within, *byte) {
+            (Within::Plain, b'"') => return Some(at + 1),
+            (Within::Plain | Within::Escape | Within::High | Within::Low(_), _) => {
+                within = behind(within, *byte)?;
+            }
         }
-        within = behind(within, *byte)?;
     }
     None
 }
