@@ -10,5 +10,5 @@ mod sorts;
 mod warnings;
 mod ways;
 
-pub use near::{did_you_mean, nearest, quoted};
+pub use near::{nearest, quoted};
 pub use warnings::{Warning, warnings_of};

@@ -1,7 +1,6 @@
 //! Whether the messages at the ports of a join belong together by their places.
 use crate::ways::{Way, Ways};
 use flow_link::{BlockKind, BlockUnit};
-use flow_value::When;
 use std::alloc::{AllocError, Global};
 
 /// Whether each port of a join gets one message for each message of one block, in the same order.
@@ -20,10 +19,11 @@ pub(crate) fn belongs_together(
             Some(way) if is_whole(ways, way) => root_of(ways, way.source),
             _ => return Ok(false),
         };
-        if common.is_some_and(|common| common != root) {
-            return Ok(false);
+        match common {
+            Some(common) if common != root => return Ok(false),
+            Some(_) => {}
+            None => common = Some(root),
         }
-        common = Some(root);
     }
     Ok(true)
 }
@@ -44,13 +44,23 @@ fn only_way(into: &[Way], port: u32) -> Option<Way> {
 
 // Whether all that a link's source gives crosses the link.
 fn is_whole(ways: &Ways<'_>, way: Way) -> bool {
-    if way.when != When::Any || way.max.is_some() {
+    if !way.admits_all() {
         return false;
     }
     if ways.copies(way.source) {
         return ways.takes_at_once(way.target);
     }
-    ways.ways.iter().all(|other| other.source != way.source || other.link == way.link)
+    is_only_way(ways, way)
+}
+
+// Whether no other link leads out of a link's source.
+fn is_only_way(ways: &Ways<'_>, way: Way) -> bool {
+    for other in &ways.ways {
+        if other.source == way.source && other.link != way.link {
+            return false;
+        }
+    }
+    true
 }
 
 // The block of whose messages this block gives one for each.
@@ -72,7 +82,7 @@ fn block_before(ways: &Ways<'_>, number: usize) -> Option<usize> {
         return None;
     }
     let mut found = None;
-    for way in ways.ways.iter() {
+    for way in &ways.ways {
         if way.target == number {
             if found.is_some() || !is_whole(ways, *way) {
                 return None;

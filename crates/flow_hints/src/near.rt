@@ -33,14 +33,6 @@ pub fn nearest<'w>(
     Ok(found)
 }
 
-/// A blank and a question after the nearest of these words; nothing where none is near.
-pub fn did_you_mean(alloc: Global, word: &str, words: &[&str]) -> Result<String, AllocError> {
-    match nearest(alloc, word, words)? {
-        Some(other) => format!(in alloc; " Did you mean {other:?}?"),
-        None => Ok(String::new(alloc)),
-    }
-}
-
 /// A text in double quotes and with escapes, cut behind 64 characters.
 pub fn quoted(alloc: Global, text: &str) -> Result<String, AllocError> {
     let mut cut = String::new(alloc);

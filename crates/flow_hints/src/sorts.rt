@@ -5,7 +5,7 @@ use flow_value::{Step, Steps, When};
 use std::alloc::{AllocError, Global};
 
 /// The sorts of values that may come somewhere.
-#[derive(Clone, Copy, PartialEq, Eq)]
+#[derive(Clone, Copy)]
 pub(crate) struct Sorts {
     pub(crate) numbers: bool,
     pub(crate) texts: bool,
@@ -46,6 +46,10 @@ impl Sorts {
     /// Whether no value comes at all.
     pub(crate) fn is_none(self) -> bool {
         !self.numbers && !self.texts && !self.rows
+    }
+
+    fn differ(self, other: Sorts) -> bool {
+        self.numbers != other.numbers || self.texts != other.texts || self.rows != other.rows
     }
 
     fn with(self, other: Sorts) -> Sorts {
@@ -145,7 +149,7 @@ impl Flow {
     // Adds what comes into a block over its links, and what it then gives.
     fn add_block(&mut self, ways: &Ways<'_>, number: usize, block: &BlockDef<Steps>) {
         let mut coming = if block.input { TEXTS } else { NONE };
-        for way in ways.ways.iter() {
+        for way in &ways.ways {
             if way.target == number {
                 coming = coming.with(crossing(*way, self.out_of(way.source)));
             }
@@ -179,7 +183,7 @@ fn add_round(flow: &mut Flow, ways: &Ways<'_>) -> bool {
     for (number, block) in ways.blocks.iter().enumerate() {
         let before = flow.out_of(number);
         flow.add_block(ways, number, block);
-        changed = changed || flow.out_of(number) != before;
+        changed = changed || flow.out_of(number).differ(before);
     }
     changed
 }

@@ -2,7 +2,7 @@
 use crate::matching::belongs_together;
 use crate::near::quoted;
 use crate::sorts::{Flow, after_step, flow_of};
-use crate::ways::{Way, Ways, port_count, ways_of};
+use crate::ways::{Way, Ways, is_any, port_count, ways_of};
 use flow_link::{BlockDef, BlockUnit, Plan};
 use flow_places::{Part, Places, Span, item_span, places_in};
 use flow_value::{Step, Steps, When};
@@ -63,7 +63,7 @@ impl<'a, 'p> Look<'a, 'p> {
         for (number, block) in self.ways.blocks.iter().enumerate() {
             self.add_block(number, block, &mut warnings)?;
         }
-        for way in self.ways.ways.iter() {
+        for way in &self.ways.ways {
             self.add_way(*way, &mut warnings)?;
         }
         warnings.sort_by_key(|warning| warning.span.start)?;
@@ -149,7 +149,7 @@ impl<'a, 'p> Look<'a, 'p> {
             return Ok(());
         }
         for port in 0..count {
-            if into.iter().any(|way| way.port == port) {
+            if leads_to(into, port) {
                 continue;
             }
             let title = self.title(number)?;
@@ -186,10 +186,13 @@ impl<'a, 'p> Look<'a, 'p> {
 
     // The links among these that lead to this port.
     fn to_port(&self, into: &[Way], port: u32) -> Result<Vec<Way>, AllocError> {
-        into.iter()
-            .filter(|way| way.port == port)
-            .copied()
-            .collect(self.alloc)
+        let mut ways = Vec::new(self.alloc);
+        for way in into {
+            if way.port == port {
+                ways.push(*way)?;
+            }
+        }
+        Ok(ways)
     }
 
     fn add_no_end_among(
@@ -202,13 +205,13 @@ impl<'a, 'p> Look<'a, 'p> {
             return Ok(());
         };
         let title = self.title(block)?;
-        let Some(handing) = into.iter().find(|way| way.propagate) else {
+        let Some(handing) = first_handing_on(into) else {
             let message = format!(in self.alloc;
                 "no link hands its end on to {title}: without \"propagate = true\" at one it never completes."
             )?;
             return add_warning(warnings, self.span_of(Part::Link(first.link)), message);
         };
-        if into.iter().any(|way| way.propagate && way.max.is_none()) {
+        if hands_on_surely(into) {
             return Ok(());
         }
         let message = format!(in self.alloc;
@@ -228,7 +231,7 @@ impl<'a, 'p> Look<'a, 'p> {
         let Some(first) = out.first() else {
             return Ok(());
         };
-        if self.ways.copies(block) || !out.iter().all(|way| way.when != When::Any) {
+        if self.ways.copies(block) || admits_anything(out) {
             return Ok(());
         }
         if admits_each_number(out) && self.gives_numbers_alone(block) {
@@ -306,7 +309,7 @@ impl<'a, 'p> Look<'a, 'p> {
     // What is to be said of a link.
     fn add_way(&self, way: Way, warnings: &mut Vec<Warning>) -> Result<(), AllocError> {
         let given = self.flow.out_of(way.source);
-        if way.when != When::Any && !given.numbers && !given.is_none() {
+        if !is_any(way.when) && !given.numbers && !given.is_none() {
             let title = self.title(way.source)?;
             let words = given.words();
             let link = way.link;
@@ -332,7 +335,7 @@ impl<'a, 'p> Look<'a, 'p> {
         if self.ways.copies(way.source) {
             return None;
         }
-        for other in self.ways.ways.iter() {
+        for other in &self.ways.ways {
             if other.source == way.source && other.link < way.link && self.takes_all(*other) {
                 return Some(*other);
             }
@@ -341,28 +344,80 @@ impl<'a, 'p> Look<'a, 'p> {
     }
 
     fn takes_all(&self, way: Way) -> bool {
-        way.when == When::Any && way.max.is_none() && self.ways.takes_at_once(way.target)
+        way.admits_all() && self.ways.takes_at_once(way.target)
     }
+}
+
+// Whether one of these links leads to this port.
+fn leads_to(into: &[Way], port: u32) -> bool {
+    for way in into {
+        if way.port == port {
+            return true;
+        }
+    }
+    false
+}
+
+// The first of these links that hands its end on.
+fn first_handing_on(into: &[Way]) -> Option<Way> {
+    for way in into {
+        if way.propagate {
+            return Some(*way);
+        }
+    }
+    None
+}
+
+// Whether one of these links hands its end on and is never cut.
+fn hands_on_surely(into: &[Way]) -> bool {
+    for way in into {
+        if way.propagate && way.max.is_none() {
+            return true;
+        }
+    }
+    false
+}
+
+// Whether one of these links admits each message.
+fn admits_anything(out: &[Way]) -> bool {
+    for way in out {
+        if is_any(way.when) {
+            return true;
+        }
+    }
+    false
 }
 
 // Whether each number is admitted by one of these links.
 fn admits_each_number(out: &[Way]) -> bool {
-    let even = out.iter().any(|way| way.when == When::Even);
-    let odd = out.iter().any(|way| way.when == When::Odd);
-    (even && odd) || out.iter().any(|way| is_met(out, way.when))
+    let mut even = false;
+    let mut odd = false;
+    for way in out {
+        match way.when {
+            When::Even => even = true,
+            When::Odd => odd = true,
+            When::Lt(low) => {
+                if admits_all_from(out, low) {
+                    return true;
+                }
+            }
+            When::Any | When::Ge(_) | When::Eq(_) => {}
+        }
+    }
+    even && odd
 }
 
-// Whether this is a predicate for small numbers, and another one admits all that are not.
-fn is_met(out: &[Way], when: When) -> bool {
-    match when {
-        When::Lt(low) => out.iter().any(|way| admits_from(way.when, low)),
-        When::Any | When::Even | When::Odd | When::Ge(_) | When::Eq(_) => false,
+// Whether one of these links admits each number from here on.
+fn admits_all_from(out: &[Way], low: i64) -> bool {
+    for way in out {
+        match way.when {
+            When::Ge(bound) => {
+                if bound <= low {
+                    return true;
+                }
+            }
+            When::Any | When::Even | When::Odd | When::Lt(_) | When::Eq(_) => {}
+        }
     }
-}
-
-fn admits_from(when: When, low: i64) -> bool {
-    match when {
-        When::Ge(bound) => bound <= low,
-        When::Any | When::Even | When::Odd | When::Lt(_) | When::Eq(_) => false,
-    }
+    false
 }

@@ -15,6 +15,21 @@ pub(crate) struct Way {
     pub(crate) propagate: bool,
 }
 
+impl Way {
+    /// Whether each message may cross the link, as often as it likes.
+    pub(crate) fn admits_all(self) -> bool {
+        is_any(self.when) && self.max.is_none()
+    }
+}
+
+/// Whether a predicate admits each message.
+pub(crate) fn is_any(when: When) -> bool {
+    match when {
+        When::Any => true,
+        When::Even | When::Odd | When::Lt(_) | When::Ge(_) | When::Eq(_) => false,
+    }
+}
+
 /// The blocks of a plan and the links between them.
 #[derive(Drop)]
 pub(crate) struct Ways<'p> {
@@ -57,20 +72,24 @@ impl<'p> Ways<'p> {
 
     /// The links into this block.
     pub(crate) fn into_block(&self, alloc: Global, block: usize) -> Result<Vec<Way>, AllocError> {
-        self.ways
-            .iter()
-            .filter(|way| way.target == block)
-            .copied()
-            .collect(alloc)
+        let mut into = Vec::new(alloc);
+        for way in &self.ways {
+            if way.target == block {
+                into.push(*way)?;
+            }
+        }
+        Ok(into)
     }
 
     /// The links out of this block, in order.
     pub(crate) fn out_of(&self, alloc: Global, block: usize) -> Result<Vec<Way>, AllocError> {
-        self.ways
-            .iter()
-            .filter(|way| way.source == block)
-            .copied()
-            .collect(alloc)
+        let mut out = Vec::new(alloc);
+        for way in &self.ways {
+            if way.source == block {
+                out.push(*way)?;
+            }
+        }
+        Ok(out)
     }
 
     /// Whether the block gives a copy of each message to each of its links.
