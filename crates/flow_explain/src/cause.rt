@@ -1,5 +1,5 @@
 //! The likely cause for which a record is refused.
-use crate::encoding::{BadByte, bad_byte, is_utf_16};
+use crate::encoding::{BadByte, bad_byte, ends_network, is_utf_16};
 use crate::hint::{Hint, near_or};
 use crate::rows::{Row, Rows, opens_quote};
 use flow_fault_text::TextFault;
@@ -116,7 +116,7 @@ impl<'t> Record<'t> {
                 "record {number} reaches to the end of the text, since a double quote in it is never closed."
             );
         }
-        if rows.field(0) == Some(b"%%".as_slice()) {
+        if ends_network(rows.field(0).unwrap_or(&[])) {
             return format!(in self.alloc;
                 "record {number} is a line %%. Such a line parts a network from its records, in one text with both and with no carriage return behind it."
             );

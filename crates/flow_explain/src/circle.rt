@@ -14,10 +14,19 @@ pub(crate) fn circle(
             break;
         }
     }
-    match stays.iter().position(|stays| *stays) {
+    match first_true(&stays) {
         Some(block) => way_back(alloc, blocks, &stays, ends, block),
         None => Ok(Vec::new(alloc)),
     }
+}
+
+fn first_true(flags: &[bool]) -> Option<usize> {
+    for (at, flag) in flags.iter().enumerate() {
+        if *flag {
+            return Some(at);
+        }
+    }
+    None
 }
 
 // Takes away the blocks into which no link leads from one that stays, and answers whether there were any.
@@ -34,7 +43,12 @@ fn take_sources(stays: &mut [bool], ends: &[Ends]) -> bool {
 
 // The first link into a block from a block that stays.
 fn link_into(stays: &[bool], ends: &[Ends], block: usize) -> Option<usize> {
-    ends.iter().position(|link| leads_into(*link, stays, block))
+    for (number, link) in ends.iter().enumerate() {
+        if leads_into(*link, stays, block) {
+            return Some(number);
+        }
+    }
+    None
 }
 
 fn leads_into(link: Ends, stays: &[bool], block: usize) -> bool {

@@ -11,6 +11,11 @@ pub(crate) fn is_utf_16(text: &[u8]) -> bool {
     text.starts_with(b"\xff\xfe") || text.starts_with(b"\xfe\xff")
 }
 
+/// Whether this is a line that ends a network where its records follow.
+pub(crate) fn ends_network(line: &[u8]) -> bool {
+    line == b"%%".as_slice()
+}
+
 /// The first byte at which a text is no UTF-8: how many bytes stand in front of it, and the byte.
 pub(crate) fn bad_byte(text: &[u8]) -> Option<(usize, u8)> {
     match str::from_utf8(text) {

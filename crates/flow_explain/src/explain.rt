@@ -3,7 +3,7 @@ ghost use Rattle.std.specs.Prelude.{◌≡◌, IfOk};
 ghost use Rattle.flow_explain.specs.Answers.{IsAnswerTo};
 ghost use Rattle.flow_fault_text.specs.declared.fault.TextFault.{TextFault};
 
-use crate::encoding::{BadByte, bad_byte, is_utf_16, without_mark};
+use crate::encoding::{BadByte, bad_byte, ends_network, is_utf_16, without_mark};
 use crate::finding::{Flaw, add_flaw};
 use crate::keys::part_at;
 use crate::network::Network;
@@ -55,7 +55,7 @@ fn flaws_of(alloc: Global, text: &[u8], fault: TextFault) -> Result<(Flaw, Vec<F
 {
     let mut flaws = all_flaws(alloc, text)?;
     flaws.sort_by_key(|flaw| flaw.span.start)?;
-    let first = match flaws.iter().position(|flaw| flaw.fault == fault) {
+    let first = match first_with(&flaws, fault) {
         Some(at) => flaws.remove(at),
         None => untold(alloc, text, fault)?,
     };
@@ -66,6 +66,16 @@ fn flaws_of(alloc: Global, text: &[u8], fault: TextFault) -> Result<(Flaw, Vec<F
         message,
     };
     Ok((first, flaws))
+}
+
+// The first of these flaws that has this fault.
+fn first_with(flaws: &[Flaw], fault: TextFault) -> Option<usize> {
+    for (at, flaw) in flaws.iter().enumerate() {
+        if flaw.fault == fault {
+            return Some(at);
+        }
+    }
+    None
 }
 
 // The flaws that are found in a text.
@@ -114,7 +124,7 @@ fn add_syntax_flaw(
         );
     }
     let line = line_span(text, span.start);
-    if text.get(line.start..line.end) == Some(b"%%".as_slice()) {
+    if ends_network(text.get(line.start..line.end).unwrap_or(&[])) {
         let message =
             "a line %% ends a network where its records follow; here the network stands alone.";
         return add_flaw(alloc, flaws, fault, span, message);

@@ -4,7 +4,7 @@ use flow_link::BlockKind;
 use flow_places::Part;
 
 /// What the value at a key is to be.
-#[derive(Clone, Copy, PartialEq, Eq)]
+#[derive(Clone, Copy)]
 pub(crate) enum Form {
     Boolean,
     Integer,

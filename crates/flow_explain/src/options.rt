@@ -54,7 +54,12 @@ pub(crate) fn port_count(kind: BlockKind, ports: Option<u32>) -> u32 {
 
 /// Whether a text is a name of a block.
 pub(crate) fn is_name(name: &str) -> bool {
-    !name.is_empty() && name.len() <= 64 && name.bytes().all(is_name_byte)
+    for byte in name.bytes() {
+        if !is_name_byte(byte) {
+            return false;
+        }
+    }
+    !name.is_empty() && name.len() <= 64
 }
 
 fn is_name_byte(byte: u8) -> bool {

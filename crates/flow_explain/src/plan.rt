@@ -189,7 +189,23 @@ fn add_bad_name(
 
 // The first block that has this name.
 fn named(names: &[Option<&str>], name: &str) -> Option<usize> {
-    names.iter().position(|other| *other == Some(name))
+    for (block, other) in names.iter().enumerate() {
+        match other {
+            Some(other) if *other == name => return Some(block),
+            Some(_) | None => {}
+        }
+    }
+    None
+}
+
+// Whether a block has no name that is a text.
+fn lacks_name(names: &[Option<&str>]) -> bool {
+    for name in names {
+        if name.is_none() {
+            return true;
+        }
+    }
+    false
 }
 
 // Adds the options that a block has and its kind has not, that it lacks, and that are out of range.
@@ -270,10 +286,15 @@ fn add_needed(
 }
 
 fn has_unknown_key(network: Network<'_>, part: Part) -> bool {
-    match network.table(part) {
-        Some(table) => table.keys().any(|key| !knows(part, key.as_str())),
-        None => false,
+    let Some(table) = network.table(part) else {
+        return false;
+    };
+    for key in table.keys() {
+        if !knows(part, key.as_str()) {
+            return true;
+        }
     }
+    false
 }
 
 // Adds that a number is out of the range of its option.
@@ -397,8 +418,9 @@ fn shared_before(
     let source = source_into(*ends.get(second)?, block)?;
     let port = port_of(network, second);
     for (first, other) in ends.iter().enumerate().take(second) {
-        if source_into(*other, block) == Some(source) && port_of(network, first) != port {
-            return Some(first);
+        match source_into(*other, block) {
+            Some(found) if found == source && port_of(network, first) != port => return Some(first),
+            Some(_) | None => {}
         }
     }
     None
@@ -406,10 +428,9 @@ fn shared_before(
 
 // The source of a link that leads to this block.
 fn source_into(ends: Ends, block: usize) -> Option<usize> {
-    if ends.target == Some(block) {
-        ends.source
-    } else {
-        None
+    match ends.target {
+        Some(target) if target == block => ends.source,
+        Some(_) | None => None,
     }
 }
 
@@ -502,7 +523,7 @@ fn add_unknown_block(
         return Ok(());
     };
     // a block without a name may be the one that is meant
-    if is_full(flaws) || names.contains(&None) {
+    if is_full(flaws) || lacks_name(names) {
         return Ok(());
     }
     let leads = if end == "from" {
@@ -528,8 +549,10 @@ fn known_name<'t>(
     names: &[Option<&'t str>],
 ) -> Result<Hint<'t>, AllocError> {
     let mut known = Vec::new(alloc);
-    for name in names.iter().flatten() {
-        known.push(*name)?;
+    for name in names {
+        if let Some(name) = name {
+            known.push(*name)?;
+        }
     }
     near_or(alloc, name, known.as_slice(), Hint::Words(""))
 }

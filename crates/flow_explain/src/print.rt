@@ -17,7 +17,7 @@ pub struct Source<'s> {
 }
 
 /// How much is printed.
-#[derive(Clone, Copy, PartialEq, Eq)]
+#[derive(Clone, Copy)]
 pub enum Style {
     /// Each thing with its line of the text, and at the end what came of it.
     Full,

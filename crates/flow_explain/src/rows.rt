@@ -40,7 +40,7 @@ impl<'t> Rows<'t> {
                 let end = self.place();
                 let span = Span::new(start, end);
                 let value_begins_blank = match self.field(1) {
-                    Some(value) => value.first() == Some(&b' '),
+                    Some(value) => value.starts_with(b" "),
                     None => false,
                 };
                 Ok(Some(Row {
@@ -88,16 +88,24 @@ impl<'t> Rows<'t> {
 // The first place from here on that is no line end.
 fn behind_line_ends(text: &[u8], place: usize) -> usize {
     let rest = text.get(place..).unwrap_or(&[]);
-    let ends = rest
-        .iter()
-        .take_while(|byte| **byte == b'\n' || **byte == b'\r')
-        .count();
+    let mut ends = 0usize;
+    for byte in rest {
+        if *byte != b'\n' && *byte != b'\r' {
+            break;
+        }
+        ends = ends.saturating_add(1);
+    }
     place.saturating_add(ends)
 }
 
 /// Whether a record that reaches to the end of its text has a double quote that is never closed.
 pub(crate) fn opens_quote(text: &[u8], record: Span) -> bool {
     let bytes = text.get(record.start..record.end).unwrap_or(&[]);
-    let quotes = bytes.iter().filter(|byte| **byte == b'"').count();
-    record.end == text.len() && quotes % 2 == 1
+    let mut is_open = false;
+    for byte in bytes {
+        if *byte == b'"' {
+            is_open = !is_open;
+        }
+    }
+    record.end == text.len() && is_open
 }

@@ -81,11 +81,19 @@ fn is_misspelt(
     };
     for other in table.keys() {
         let other = other.as_str();
-        if !knows(part, other) && nearest(alloc, other, key_names(part))? == Some(key) {
+        if !knows(part, other) && is_nearest(alloc, other, key, key_names(part))? {
             return Ok(true);
         }
     }
     Ok(false)
+}
+
+// Whether this key is the nearest to a word of these.
+fn is_nearest(alloc: Global, word: &str, key: &str, keys: &[&str]) -> Result<bool, AllocError> {
+    Ok(match nearest(alloc, word, keys)? {
+        Some(near) => near == key,
+        None => false,
+    })
 }
 
 /// Adds the keys that this part lacks.
@@ -152,10 +160,8 @@ fn add_misfit(
     if fits(key.form, value) || is_full(flaws) {
         return Ok(());
     }
-    match value.as_str() {
-        Some(word) if key.form == Form::Kind => {
-            add_unknown_kind(alloc, network, part, word, flaws)
-        }
+    match (key.form, value.as_str()) {
+        (Form::Kind, Some(word)) => add_unknown_kind(alloc, network, part, word, flaws),
         _ => add_wrong_type(alloc, network, part, key, value, flaws),
     }
 }

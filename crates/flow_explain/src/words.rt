@@ -183,7 +183,7 @@ fn add_trouble(
         Some((name, number)) => (name, Some(number)),
         None => (text.trim(), None),
     };
-    let why = match sort.words.iter().find(|word| word.name == name) {
+    let why = match word_named(sort.words, name) {
         Some(word) => Why::Known(Trouble { word, text, number }),
         None => {
             let names = Hint::OneOf(" There are", sort.names);
@@ -199,6 +199,16 @@ fn add_trouble(
         span,
         format_args!("{shown} is no {sort}.{why}"),
     )
+}
+
+// The word with this name.
+fn word_named(words: &'static [Word], name: &str) -> Option<&'static Word> {
+    for word in words {
+        if word.name == name {
+            return Some(word);
+        }
+    }
+    None
 }
 
 // Why a text is no word of a sort.
@@ -255,5 +265,10 @@ impl fmt::Display for Trouble<'_> {
 // Whether a text is an optional minus sign and digits.
 fn is_number(text: &str) -> bool {
     let digits = text.strip_prefix("-").unwrap_or(text);
-    !digits.is_empty() && digits.bytes().all(|byte| byte.is_ascii_digit())
+    for byte in digits.bytes() {
+        if !byte.is_ascii_digit() {
+            return false;
+        }
+    }
+    !digits.is_empty()
 }
