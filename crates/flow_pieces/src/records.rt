@@ -106,10 +106,12 @@ fn behind_empty_lines(text: &[u8], from: usize) -> usize {
     let Some(rest) = text.get(from..) else {
         return text.len();
     };
-    match rest.iter().position(|byte| !is_line_end(*byte)) {
-        Some(count) => from.saturating_add(count),
-        None => text.len(),
+    for (count, byte) in rest.iter().enumerate() {
+        if !is_line_end(*byte) {
+            return from.saturating_add(count);
+        }
     }
+    text.len()
 }
 
 fn is_line_end(byte: u8) -> bool {

@@ -6,7 +6,7 @@ ghost use Rattle.flow_places.specs.Chars.{begins_char};
 use crate::span::Span;
 
 /// A line and a column of a text, both from 1. A column counts characters.
-#[derive(Clone, Copy, PartialEq, Eq)]
+#[derive(Clone, Copy)]
 pub struct Position {
     pub line: usize,
     pub column: usize,
@@ -82,10 +82,16 @@ pub fn line_span(text: &[u8], offset: usize) -> Span
 {
     let here = offset.min(text.len());
     let start = here - after_line_feed(&text[..here]).len();
-    let rest = &text[here..];
-    let len = rest
-        .iter()
-        .position(|byte| *byte == b'\n' || *byte == b'\r')
-        .unwrap_or(rest.len());
+    let len = line_len(&text[here..]);
     Span::new(start, here.saturating_add(len).min(text.len()))
+}
+
+// How many bytes stand in front of the first line end.
+fn line_len(bytes: &[u8]) -> usize {
+    for (at, byte) in bytes.iter().enumerate() {
+        if *byte == b'\n' || *byte == b'\r' {
+            return at;
+        }
+    }
+    bytes.len()
 }

@@ -69,17 +69,22 @@ impl Places {
     }
 
     fn place(&self, part: Part, key: &str) -> Option<&KeyPlace> {
-        self.keys
-            .iter()
-            .find(|place| place.part == part && place.key.as_str() == key)
+        for place in &self.keys {
+            if place.part == part && place.key.as_str() == key {
+                return Some(place);
+            }
+        }
+        None
     }
 
     /// Where the table of a block or a link begins: its header, or the whole table where it stands on one line.
     pub fn table(&self, part: Part) -> Option<Span> {
-        match self.tables.iter().find(|table| table.part == part) {
-            Some(table) => Some(table.span),
-            None => None,
+        for table in &self.tables {
+            if table.part == part {
+                return Some(table.span);
+            }
         }
+        None
     }
 
     /// Where a part has this key.
