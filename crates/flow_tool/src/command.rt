@@ -4,18 +4,6 @@ use std::alloc::{AllocError, Global};
 
 const ABOUT: &str = "What is beside a run of flow_run, before it and after it.";
 
-const NETWORK_HELP: &str = "The file with the network";
-
-const REPORT_HELP: &str = "The file with the report of a run, or - for standard input";
-
-const RECORDS_HELP: &str = "The file with records, or - for standard input";
-
-const ALL_RECORDS_HELP: &str = "The file with the records, or - for standard input";
-
-const BLOCKS_HELP: &str = "The actions whose results are printed, all where none is named";
-
-const PARTS_HELP: &str = "The reports of the parts, in the order of the records";
-
 const STATUSES: &str = "\
 status:
   0     all is well
@@ -23,177 +11,279 @@ status:
   2     wrong arguments, or an input that can't be read; standard error says why in a line
   4, 5  out of memory; a file or stream failed";
 
-const CHECK_EXAMPLE: &str = "\
+/// A command: its name, what it does, what stands below its help, and its arguments.
+#[derive(Clone, Copy)]
+struct Entry {
+    name: &'static str,
+    about: &'static str,
+    below: &'static str,
+    arguments: &'static [Argument],
+}
+
+/// An argument of a command.
+#[derive(Clone, Copy)]
+struct Argument {
+    id: &'static str,
+    form: Form,
+    help: &'static str,
+}
+
+/// How an argument is given: as a word, which help has this name for, or by its own name.
+#[derive(Clone, Copy)]
+enum Form {
+    /// It must be there.
+    Needed(&'static str),
+    /// It may be there.
+    Optional(&'static str),
+    /// A number of parts, which must be there.
+    Parts(&'static str),
+    /// As many words as are wanted.
+    Words(&'static str),
+    /// At least one word.
+    SomeWords(&'static str),
+    /// A word behind the argument's own name.
+    Named(&'static str),
+    /// The argument's own name alone, which never stands beside these.
+    Flag(&'static [&'static str]),
+}
+
+macro_rules! argument {
+    ($id:literal, $form:expr, $help:literal) => {
+        Argument {
+            id: $id,
+            form: $form,
+            help: $help,
+        }
+    };
+}
+
+const NETWORK: Argument = argument!("network", Form::Needed("NET"), "The file with the network");
+
+const REPORT: Argument = argument!(
+    "report",
+    Form::Needed("REPORT"),
+    "The file with the report of a run, or - for standard input"
+);
+
+const ENTRIES: &[Entry] = &[
+    Entry {
+        name: "check",
+        about: "Tells what is wrong with a network and its records, and where",
+        below: "\
 Of a network that is accepted it tells what surely leads to status 1 or never does what was meant. The status is 1 where the
 network or a record is refused.
 
 example:
-  bin/flow check network.toml records.csv";
-
-const DRAW_EXAMPLE: &str = "\
+  bin/flow check network.toml records.csv",
+        arguments: &[
+            NETWORK,
+            argument!(
+                "records",
+                Form::Optional("RECORDS"),
+                "The file with records, or - for standard input"
+            ),
+            argument!(
+                "short",
+                Form::Flag(&[]),
+                "Prints a line for each thing that it tells"
+            ),
+        ],
+    },
+    Entry {
+        name: "draw",
+        about: "Draws a network, and what became of it",
+        below: "\
 With a report it tells what crossed each link, what is held and left, and how each block ended.
 
 example:
   bin/flow draw network.toml run.report
-  bin/flow draw --dot network.toml | dot -Tsvg > network.svg";
-
-const WHY_EXAMPLE: &str = "\
+  bin/flow draw --dot network.toml | dot -Tsvg > network.svg",
+        arguments: &[
+            NETWORK,
+            argument!(
+                "report",
+                Form::Optional("REPORT"),
+                "The file with the report of a run, or - for standard input"
+            ),
+            argument!("dot", Form::Flag(&[]), "Draws for Graphviz"),
+        ],
+    },
+    Entry {
+        name: "why",
+        about: "Tells why a run ended with its status",
+        below: "\
 The status is that of the run.
 
 example:
-  bin/flow why network.toml run.report";
-
-const RESULTS_EXAMPLE: &str = "\
+  bin/flow why network.toml run.report",
+        arguments: &[NETWORK, REPORT],
+    },
+    Entry {
+        name: "results",
+        about: "Prints what actions recorded",
+        below: "\
 example:
   bin/flow results run.report ledger > ledger.csv
-  bin/flow_run network.toml 1 < records.csv | bin/flow results --jsonl -";
-
-const TRACE_EXAMPLE: &str = "\
+  bin/flow_run network.toml 1 < records.csv | bin/flow results --jsonl -",
+        arguments: &[
+            REPORT,
+            argument!(
+                "blocks",
+                Form::Words("BLOCK"),
+                "The actions whose results are printed, all where none is named"
+            ),
+            argument!(
+                "csv",
+                Form::Flag(&[]),
+                "A row for each result, which is the default"
+            ),
+            argument!(
+                "jsonl",
+                Form::Flag(&["csv"]),
+                "A JSON object for each result"
+            ),
+            argument!("json", Form::Flag(&["csv", "jsonl"]), "One JSON object"),
+        ],
+    },
+    Entry {
+        name: "trace",
+        about: "Tells where a value was: the blocks that took it and the links that it crossed",
+        below: "\
 VALUE is as the report prints it, or a text without its quotes. The status is 1 where it is nowhere.
 
 example:
-  bin/flow trace run.report seven";
-
-const SIFT_EXAMPLE: &str = "\
+  bin/flow trace run.report seven",
+        arguments: &[
+            REPORT,
+            argument!("value", Form::Needed("VALUE"), "The value"),
+        ],
+    },
+    Entry {
+        name: "sift",
+        about: "Sets aside the records of standard input that fault",
+        below: "\
 A record faults where it can't be read, or where a block faults when the record is run alone. The status is 1 where one did.
 
 example:
-  bin/flow sift network.toml < records.csv > good.csv 2> bad.txt";
-
-const SPLIT_EXAMPLE: &str = "\
+  bin/flow sift network.toml < records.csv > good.csv 2> bad.txt",
+        arguments: &[NETWORK],
+    },
+    Entry {
+        name: "split",
+        about: "Cuts records into parts of about the same size",
+        below: "\
 The parts are RECORDS.1, RECORDS.2 and so on, with as many digits as PARTS has; their names are printed. A cut is never in a
 quoted line end. With --by-key each record is `key,input,value`, and the parts have `input,value`.
 
 example:
-  bin/flow split 8 records.csv";
-
-const MERGE_EXAMPLE: &str = "\
+  bin/flow split 8 records.csv",
+        arguments: &[
+            argument!("parts", Form::Parts("PARTS"), "How many parts, 1 to 1000"),
+            argument!(
+                "records",
+                Form::Needed("RECORDS"),
+                "The file with the records, or - for standard input"
+            ),
+            argument!(
+                "name",
+                Form::Named("NAME"),
+                "Writes NAME.1, NAME.2 and so on"
+            ),
+            argument!(
+                "by-key",
+                Form::Flag(&[]),
+                "Puts records with one key into one part, and takes the key off"
+            ),
+        ],
+    },
+    Entry {
+        name: "merge",
+        about: "Makes the report of the whole of the reports of its parts",
+        below: "\
 Reports are merged of networks of buffers, actions, transforms, transform_manys and joins without a max, where each part has
 status 0. The status is the worst of the parts', or 2 where they can't be merged though each has 0.
 
 example:
-  bin/flow merge network.toml records.csv.*.report > whole.report";
+  bin/flow merge network.toml records.csv.*.report > whole.report",
+        arguments: &[
+            NETWORK,
+            argument!(
+                "parts",
+                Form::SomeWords("PART"),
+                "The reports of the parts, in the order of the records"
+            ),
+        ],
+    },
+];
 
 /// The command line: a command, and its arguments.
 pub fn command_line<'a>(alloc: Global) -> Result<Command<'a>, AllocError> {
-    Command::new(alloc, "flow")
+    let mut line = Command::new(alloc, "flow")
         .bin_name("flow")?
         .about(ABOUT)
         .after_help(STATUSES)
         .disable_help_subcommand(true)
-        .subcommand_required(true)
-        .subcommand(check(alloc)?)?
-        .subcommand(draw(alloc)?)?
-        .subcommand(why(alloc)?)?
-        .subcommand(results(alloc)?)?
-        .subcommand(trace(alloc)?)?
-        .subcommand(sift(alloc)?)?
-        .subcommand(split(alloc)?)?
-        .subcommand(merge(alloc)?)
+        .subcommand_required(true);
+    for entry in ENTRIES {
+        let command = command(alloc, entry)?;
+        line = line.subcommand(command)?;
+    }
+    Ok(line)
 }
 
-fn check<'a>(alloc: Global) -> Result<Command<'a>, AllocError> {
-    Command::new(alloc, "check")
-        .about("Tells what is wrong with a network and its records, and where")
-        .after_help(CHECK_EXAMPLE)
-        .arg(needed(alloc, "network", "NET", NETWORK_HELP))?
-        .arg(optional(alloc, "records", "RECORDS", RECORDS_HELP))?
-        .arg(flag(alloc, "short", "Prints a line for each thing that it tells"))
+fn command<'a>(alloc: Global, entry: &Entry) -> Result<Command<'a>, AllocError> {
+    let command = Command::new(alloc, entry.name)
+        .about(entry.about)
+        .after_help(entry.below);
+    with_arguments(alloc, command, entry.arguments)
 }
 
-fn draw<'a>(alloc: Global) -> Result<Command<'a>, AllocError> {
-    Command::new(alloc, "draw")
-        .about("Draws a network, and what became of it")
-        .after_help(DRAW_EXAMPLE)
-        .arg(needed(alloc, "network", "NET", NETWORK_HELP))?
-        .arg(optional(alloc, "report", "REPORT", REPORT_HELP))?
-        .arg(flag(alloc, "dot", "Draws for Graphviz"))
+fn with_arguments<'a>(
+    alloc: Global,
+    command: Command<'a>,
+    arguments: &[Argument],
+) -> Result<Command<'a>, AllocError> {
+    let mut command = command;
+    for argument in arguments {
+        let made = made_of(alloc, *argument)?;
+        command = command.arg(made)?;
+    }
+    Ok(command)
 }
 
-fn why<'a>(alloc: Global) -> Result<Command<'a>, AllocError> {
-    Command::new(alloc, "why")
-        .about("Tells why a run ended with its status")
-        .after_help(WHY_EXAMPLE)
-        .arg(needed(alloc, "network", "NET", NETWORK_HELP))?
-        .arg(needed(alloc, "report", "REPORT", REPORT_HELP))
+/// The argument as clap has it.
+fn made_of<'a>(alloc: Global, argument: Argument) -> Result<Arg<'a>, AllocError> {
+    let made = Arg::new(alloc, argument.id).help(argument.help);
+    Ok(match argument.form {
+        Form::Needed(name) => made.value_name(name).required(true),
+        Form::Optional(name) => made.value_name(name),
+        Form::Parts(name) => made
+            .value_name(name)
+            .required(true)
+            .value_parser(value_parser!(u32).range(1..=1000)),
+        Form::Words(name) => made
+            .value_name(name)
+            .action(ArgAction::Append)
+            .num_args(0..),
+        Form::SomeWords(name) => made
+            .value_name(name)
+            .required(true)
+            .action(ArgAction::Append)
+            .num_args(1..),
+        Form::Named(name) => made.value_name(name).long(argument.id),
+        Form::Flag(others) => return flag(made, argument.id, others),
+    })
 }
 
-fn results<'a>(alloc: Global) -> Result<Command<'a>, AllocError> {
-    Command::new(alloc, "results")
-        .about("Prints what actions recorded")
-        .after_help(RESULTS_EXAMPLE)
-        .arg(needed(alloc, "report", "REPORT", REPORT_HELP))?
-        .arg(
-            optional(alloc, "blocks", "BLOCK", BLOCKS_HELP)
-                .action(ArgAction::Append)
-                .num_args(0..),
-        )?
-        .arg(flag(alloc, "csv", "A row for each result, which is the default"))?
-        .arg(flag(alloc, "jsonl", "A JSON object for each result").conflicts_with("csv")?)?
-        .arg(
-            flag(alloc, "json", "One JSON object")
-                .conflicts_with("csv")?
-                .conflicts_with("jsonl")?,
-        )
-}
-
-fn trace<'a>(alloc: Global) -> Result<Command<'a>, AllocError> {
-    Command::new(alloc, "trace")
-        .about("Tells where a value was: the blocks that took it and the links that it crossed")
-        .after_help(TRACE_EXAMPLE)
-        .arg(needed(alloc, "report", "REPORT", REPORT_HELP))?
-        .arg(needed(alloc, "value", "VALUE", "The value"))
-}
-
-fn sift<'a>(alloc: Global) -> Result<Command<'a>, AllocError> {
-    Command::new(alloc, "sift")
-        .about("Sets aside the records of standard input that fault")
-        .after_help(SIFT_EXAMPLE)
-        .arg(needed(alloc, "network", "NET", NETWORK_HELP))
-}
-
-fn split<'a>(alloc: Global) -> Result<Command<'a>, AllocError> {
-    Command::new(alloc, "split")
-        .about("Cuts records into parts of about the same size")
-        .after_help(SPLIT_EXAMPLE)
-        .arg(needed(alloc, "parts", "PARTS", "How many parts, 1 to 1000").value_parser(
-            value_parser!(u32).range(1..=1000),
-        ))?
-        .arg(needed(alloc, "records", "RECORDS", ALL_RECORDS_HELP))?
-        .arg(optional(alloc, "name", "NAME", "Writes NAME.1, NAME.2 and so on").long("name"))?
-        .arg(flag(
-            alloc,
-            "by-key",
-            "Puts records with one key into one part, and takes the key off",
-        ))
-}
-
-fn merge<'a>(alloc: Global) -> Result<Command<'a>, AllocError> {
-    Command::new(alloc, "merge")
-        .about("Makes the report of the whole of the reports of its parts")
-        .after_help(MERGE_EXAMPLE)
-        .arg(needed(alloc, "network", "NET", NETWORK_HELP))?
-        .arg(
-            needed(alloc, "parts", "PART", PARTS_HELP)
-                .action(ArgAction::Append)
-                .num_args(1..),
-        )
-}
-
-/// An argument that must be there.
-fn needed<'a>(alloc: Global, id: &'a str, name: &'a str, help: &'a str) -> Arg<'a> {
-    optional(alloc, id, name, help).required(true)
-}
-
-/// An argument that may be there.
-fn optional<'a>(alloc: Global, id: &'a str, name: &'a str, help: &'a str) -> Arg<'a> {
-    Arg::new(alloc, id).value_name(name).help(help)
-}
-
-/// A flag, by its name.
-fn flag<'a>(alloc: Global, name: &'a str, help: &'a str) -> Arg<'a> {
-    Arg::new(alloc, name)
-        .long(name)
-        .action(ArgAction::SetTrue)
-        .help(help)
+/// A flag of this name, which never stands beside these others.
+fn flag<'a>(
+    made: Arg<'a>,
+    name: &'static str,
+    others: &[&'static str],
+) -> Result<Arg<'a>, AllocError> {
+    let mut flag = made.long(name).action(ArgAction::SetTrue);
+    for other in others {
+        flag = flag.conflicts_with(*other)?;
+    }
+    Ok(flag)
 }

@@ -73,7 +73,10 @@ impl Stop {
         let text = text.as_str();
         let text = text.strip_prefix("error: ").unwrap_or(text);
         let mut line = String::new(alloc);
-        for part in text.lines().take_while(|part| !part.is_empty()) {
+        for part in text.lines() {
+            if part.is_empty() {
+                break;
+            }
             if !line.is_empty() {
                 line.push_str(" ")?;
             }
