@@ -7,7 +7,7 @@ use flow_run::{Ran, RunRefusal, TextFault, status, write_refusal};
 use std::io::Write;
 
 /// What became of the program's task.
-#[derive(Clone, Copy, PartialEq, Eq)]
+#[derive(Clone, Copy)]
 pub enum Conclusion {
     /// The arguments were refused.
     Usage,

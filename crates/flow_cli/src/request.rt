@@ -5,7 +5,7 @@ ghost use Rattle.flow_cli.specs.Request.{workers_of, bounds_of, IsCrew, HasCrew,
 use crate::number::read_number;
 
 /// How many workers run a network, and after how many events they stop.
-#[derive(Clone, Copy, PartialEq, Eq)]
+#[derive(Clone, Copy)]
 pub struct Bounds {
     pub workers: u32,
     pub limit: u64,
@@ -21,7 +21,7 @@ pub const DEFAULT_BOUNDS: Bounds = Bounds {
 };
 
 /// What is to be run.
-#[derive(Clone, Copy, PartialEq, Eq)]
+#[derive(Clone, Copy)]
 pub enum Request<'a> {
     /// The network and the records that stand in standard input, one after the other.
     Input,

@@ -2,7 +2,7 @@
 use std::fmt;
 
 /// Why a record is set aside.
-#[derive(Clone, Copy, PartialEq, Eq)]
+#[derive(Clone, Copy)]
 pub enum Aside<'p> {
     /// It hasn't exactly two fields.
     Csv,
