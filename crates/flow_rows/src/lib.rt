@@ -9,10 +9,6 @@ mod devices;
 #[cfg(test)]
 mod functions;
 #[cfg(test)]
-mod merged;
-#[cfg(test)]
 mod refused;
-#[cfg(test)]
-mod sifted;
 #[cfg(test)]
 mod texts;

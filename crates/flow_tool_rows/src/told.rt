@@ -1,4 +1,5 @@
 //! What is told of a text.
+use crate::check::{check, is_due};
 use flow_explain::{Answer, Source, Style, Verdict, check_network, explain_network};
 use flow_fault_text::TextRefusal;
 use flow_places::Span;
@@ -6,11 +7,6 @@ use flow_plan_text::read_plan;
 use std::alloc::{AllocError, Global};
 use std::process::Abort;
 use std::test::Fail;
-
-/// Tests that the case with this name comes out as it should.
-pub(crate) fn check(rt: &(impl Abort + Print), name: &str, holds: bool) {
-    assert!(rt; holds, "{name}");
-}
 
 /// A text whose first line names the format, and whose others are these, between which ' ; ' stands.
 pub(crate) fn lines_of(alloc: Global, lines: &str) -> Result<String, AllocError> {
@@ -35,21 +31,30 @@ pub(crate) fn unmarked(alloc: Global, marked: &str) -> Result<(String, Span), Al
     Ok((text, span))
 }
 
-/// The first flaw that is told of a text: its fault, as a run tells it, and where it stands.
+/// The first flaw that is told of a text: its fault, as a run tells it, and where it stands. A text that is accepted has none.
 pub(crate) fn first_flaw(alloc: Global, text: &[u8]) -> Result<(String, Span), Fail> {
     match explain_network(alloc, text)? {
         Answer::Refused(flaw, _) => {
             let fault = flaw.fault;
             Ok((format!(in alloc; "{fault}")?, flaw.span))
         }
-        Answer::Accepted(_) => Err(Fail::new("it is accepted")),
+        Answer::Accepted(_) => Ok((String::from_str(alloc, "accepted")?, Span::new(0, 0))),
     }
 }
 
-/// Whether the first flaw of a text has this fault and stands there, and a run refuses the text for it too.
-pub(crate) fn is_flaw_at(alloc: Global, text: &[u8], line: &str, span: Span) -> Result<bool, Fail> {
+/// Tests that the first flaw of a text has this fault and stands there, and that a run refuses the text for it too.
+pub(crate) fn is_flawed(
+    rt: &(impl Abort + Print),
+    alloc: Global,
+    row: &str,
+    text: &[u8],
+    line: &str,
+    span: Span,
+) -> Result<(), Fail> {
     let (fault, found) = first_flaw(alloc, text)?;
-    Ok(fault.as_str() == line && found == span && is_refused(alloc, text, line)?)
+    is_due(rt, row, line, fault.as_str());
+    check(rt, row, found == span && is_refused(alloc, text, line)?);
+    Ok(())
 }
 
 /// Whether a run refuses a network for this fault.
@@ -72,12 +77,17 @@ pub(crate) fn printed(alloc: Global, text: &[u8], style: Style) -> Result<(Verdi
     Ok((verdict, String::from_utf8_lossy(alloc, out.as_slice())?))
 }
 
-/// Whether the lines of a text begin with these words, one after another, and there are no others.
-pub(crate) fn begin_with(text: &str, beginnings: &[&str]) -> bool {
+/// Tests that the lines of a text begin with the words of these lines, one after another, and that there are no others.
+pub(crate) fn begins(rt: &(impl Abort + Print), case: &str, text: &str, beginnings: &str) {
+    assert!(rt; begin_with(text, beginnings), "{case}\n  came\n{text}");
+}
+
+/// Whether the lines of a text begin with the words of these lines, one after another, and there are no others.
+fn begin_with(text: &str, beginnings: &str) -> bool {
     let mut lines = text.lines();
-    for beginning in beginnings {
+    for beginning in beginnings.lines() {
         match lines.next() {
-            Some(line) if line.starts_with(*beginning) => {}
+            Some(line) if line.starts_with(beginning) => {}
             _ => return false,
         }
     }

@@ -1,52 +1,53 @@
 //! Texts that are broken in many ways: each is refused, and told so.
-use crate::told::{check, printed};
+use crate::check::{bytes_of, check, has_rows};
+use crate::told::printed;
 use flow_explain::{Style, Verdict};
 use flow_fault_text::TextFault;
 use std::alloc::Global;
 use std::process::Abort;
 use std::test::Fail;
 
-/// Texts that are no TOML.
-const BROKEN: &[&[u8]] = &[
-    b"\xff\xfef\x00o\x00r\x00",
-    b"\xfe\xff\x00f",
-    b"format = 1\nblock = []\nname = \"caf\xe9\"\n",
-    b"\xef\xbb\xbf\xef\xbb\xbfformat = 1\n",
-    b"\xef\xbb",
-    b"\x00",
-    b"\x00\x00\x00\x00",
-    b"format = 1\x00",
-    b"\r",
-    b"\rformat = 1\n",
-    b"[",
-    b"[[",
-    b"[[]]",
-    b"[[block",
-    b"[[block]",
-    b"[[block]]]",
-    b"[[block]]\nname",
-    b"[[block]]\nname =",
-    b"[[block]]\nname = \"",
-    b"[[block]]\nname = \"\"\"a\n\"",
-    b"[[block]]\nname = 'a\n",
-    b"[[block]]\nname = \"a\\",
-    b"[[block]]\nname = \"\\ud800\"",
-    b"block = [{",
-    b"block = [{]}",
-    b"block = [}",
-    b"block = [,]",
-    b"block = {name = \"a\", name = \"a\"}",
-    b"format == 1",
-    b"= 1",
-    b"format = 1 block = []",
-    b"format = 1\nblock = []\n%%\nin,1\n",
-    b"[block]\n[[block]]\n",
-    b"block = []\n[[block]]\n",
-    b"a.b = 1\na = 2\n",
-    b"format = 99999999999999999999999\n",
-    b"\"\\x\" = 1",
-    b"\xe2\x80\xa8",
-];
+/// Texts that are no TOML, a row each, as `bytes_of` reads them.
+const BROKEN: &str = "
+\u{ff}\u{fe}f\u{0}o\u{0}r\u{0}
+\u{fe}\u{ff}\u{0}f
+format = 1~block = []~name = \"caf\u{e9}\"~
+\u{ef}\u{bb}\u{bf}\u{ef}\u{bb}\u{bf}format = 1~
+\u{ef}\u{bb}
+\u{0}
+\u{0}\u{0}\u{0}\u{0}
+format = 1\u{0}
+^
+^format = 1~
+[
+[[
+[[]]
+[[block
+[[block]
+[[block]]]
+[[block]]~name
+[[block]]~name =
+[[block]]~name = \"
+[[block]]~name = \"\"\"a~\"
+[[block]]~name = 'a~
+[[block]]~name = \"a\\
+[[block]]~name = \"\\ud800\"
+block = [{
+block = [{]}
+block = [}
+block = [,]
+block = {name = \"a\", name = \"a\"}
+format == 1
+= 1
+format = 1 block = []
+format = 1~block = []~%%~in,1~
+[block]~[[block]]~
+block = []~[[block]]~
+a.b = 1~a = 2~
+format = 99999999999999999999999~
+\"\\x\" = 1
+\u{e2}\u{80}\u{a8}
+";
 
 // Tests that a text is refused for its syntax and told on some line, in each style.
 fn is_told(rt: &(impl Abort + Print), alloc: Global, name: &str, text: &[u8]) -> Result<(), Fail> {
@@ -63,9 +64,9 @@ fn is_told(rt: &(impl Abort + Print), alloc: Global, name: &str, text: &[u8]) ->
 
 #[test]
 fn broken_texts_are_told(rt: HostRuntime) -> Result<(), Fail> {
-    for (number, text) in BROKEN.iter().enumerate() {
-        let name = number.to_string(rt.alloc())?;
-        is_told(&rt, rt.alloc(), name.as_str(), text)?;
+    has_rows(&rt, BROKEN, 38);
+    for row in BROKEN.lines().skip(1) {
+        is_told(&rt, rt.alloc(), row, &bytes_of(&rt, rt.alloc(), row))?;
     }
     Ok(())
 }

@@ -1,31 +1,32 @@
 //! Networks that are refused: each is explained by its fault, at the place where it stands.
-use crate::told::{check, first_flaw, is_flaw_at, lines_of, unmarked};
+use crate::check::{bytes_of, check, has_rows, is_due, two_cells};
+use crate::told::{first_flaw, is_flawed, lines_of, unmarked};
 use flow_places::line_of;
 use std::alloc::{AllocError, Global};
 use std::process::Abort;
 use std::test::Fail;
 
-/// A whole text, the line of its refusal, and the line of the text where the fault stands.
-const WHOLE: &[(&[u8], &str, usize)] = &[
-    (b"format", "1 Syntax", 1),
-    (b"format = 1\nformat = 1\nblock = []\n", "1 Syntax", 2),
-    (b"format = 1\nblock = []\n# \xff\n", "1 Syntax", 3),
-    (b"\xff", "1 Syntax", 1),
-    (b"format = 1\nblock = [", "1 Syntax", 2),
-    (b"format = 9223372036854775808\n", "1 Syntax", 1),
-    (b"format = 2\n[[block]\n", "1 Syntax", 2),
-    (b"\xef\xbbformat = 1\nblock = []\n", "1 Syntax", 1),
-    (b"", "3 MissingKey top", 1),
-    (b"block = 3\nstrange = 1\n", "3 MissingKey top", 1),
-    (b"format = \"1\"\nblock = []\n", "4 WrongType top", 1),
-    (b"format = 1.0\nblock = []\n", "4 WrongType top", 1),
-    (b"\n\nformat = true\nstrange = 1\n", "4 WrongType top", 3),
-    (b"format = 0\nstrange = 1\n", "7 BadFormat", 1),
-    (b"format = 3\nblock = [{strange = 1}]\n", "7 BadFormat", 1),
-    (b"block = 3\n# one\nformat = -1\n", "7 BadFormat", 3),
-    (b"format = 4294967297\nblock = []\n", "7 BadFormat", 1),
-    (b"\xef\xbb\xbf\nformat = 3\n", "7 BadFormat", 2),
-];
+/// In each row the line of a refusal, the line of the text where the fault stands, and the text, as `bytes_of` reads it.
+const WHOLE: &str = "
+1 Syntax | 1 | format
+1 Syntax | 2 | format = 1~format = 1~block = []~
+1 Syntax | 3 | format = 1~block = []~# \u{ff}~
+1 Syntax | 1 | \u{ff}
+1 Syntax | 2 | format = 1~block = [
+1 Syntax | 1 | format = 9223372036854775808~
+1 Syntax | 2 | format = 2~[[block]~
+1 Syntax | 1 | \u{ef}\u{bb}format = 1~block = []~
+3 MissingKey top | 1 | nothing
+3 MissingKey top | 1 | block = 3~strange = 1~
+4 WrongType top | 1 | format = \"1\"~block = []~
+4 WrongType top | 1 | format = 1.0~block = []~
+4 WrongType top | 3 | ~~format = true~strange = 1~
+7 BadFormat | 1 | format = 0~strange = 1~
+7 BadFormat | 1 | format = 3~block = [{strange = 1}]~
+7 BadFormat | 3 | block = 3~# one~format = -1~
+7 BadFormat | 1 | format = 4294967297~block = []~
+7 BadFormat | 2 | \u{ef}\u{bb}\u{bf}~format = 3~
+";
 
 /// In each row the line of a refusal, and a text without its first line, which names the format; ' ; ' stands for the
 /// end of a line. What the fault is about stands in double angles; where nothing does, it is the start of the text.
@@ -265,19 +266,19 @@ fn is_told_on(
     let (fault, span) = first_flaw(alloc, text)?;
     let text = text.strip_prefix(b"\xef\xbb\xbf").unwrap_or(text);
     let found = line_of(text, span.start).to_string(alloc)?;
-    check(
-        rt,
-        line,
-        fault.as_str() == line && wanted.split(" ").any(|one| one == found.as_str()),
-    );
+    is_due(rt, wanted, line, fault.as_str());
+    check(rt, line, wanted.split(" ").any(|one| one == found.as_str()));
     Ok(())
 }
 
 #[test]
 fn whole_texts_are_told_on_their_lines(rt: HostRuntime) -> Result<(), Fail> {
-    for (text, line, wanted) in WHOLE {
-        let wanted = wanted.to_string(rt.alloc())?;
-        is_told_on(&rt, rt.alloc(), text, line, wanted.as_str())?;
+    has_rows(&rt, WHOLE, 18);
+    for row in WHOLE.lines().skip(1) {
+        let (line, others) = two_cells(&rt, row);
+        let (wanted, words) = two_cells(&rt, others);
+        let text = bytes_of(&rt, rt.alloc(), words);
+        is_told_on(&rt, rt.alloc(), &text, line, wanted)?;
     }
     Ok(())
 }
@@ -288,37 +289,36 @@ fn check_rows(rt: &(impl Abort + Print), alloc: Global, table: &str) -> Result<(
         if row.starts_with("#") {
             continue;
         }
-        let (line, others) = row.split_once(" | ").ok_or("no row")?;
+        let (line, others) = two_cells(rt, row);
         let marked = lines_of(alloc, others)?;
         let (text, span) = unmarked(alloc, marked.as_str())?;
-        check(rt, row, is_flaw_at(alloc, text.as_bytes(), line, span)?);
+        is_flawed(rt, alloc, row, text.as_bytes(), line, span)?;
     }
     Ok(())
 }
 
 #[test]
 fn faults_are_told_where_they_stand(rt: HostRuntime) -> Result<(), Fail> {
+    has_rows(&rt, TEXTS, 152);
     check_rows(&rt, rt.alloc(), TEXTS)
 }
 
 #[test]
 fn faults_under_headers_are_told_where_they_stand(rt: HostRuntime) -> Result<(), Fail> {
+    has_rows(&rt, HEADERS, 21);
     check_rows(&rt, rt.alloc(), HEADERS)
 }
 
 #[test]
 fn steps_that_there_are_not_are_told(rt: HostRuntime) -> Result<(), Fail> {
     let alloc = rt.alloc();
+    has_rows(&rt, WORKS, 21);
     for work in WORKS.lines().skip(1) {
         let marked = format!(in alloc;
             "format = 1\nblock = [{{name = \"a\", kind = \"action\", work = {work}}}]\n"
         )?;
         let (text, span) = unmarked(alloc, marked.as_str())?;
-        check(
-            &rt,
-            work,
-            is_flaw_at(alloc, text.as_bytes(), "5 BadWork block 0", span)?,
-        );
+        is_flawed(&rt, alloc, work, text.as_bytes(), "5 BadWork block 0", span)?;
     }
     Ok(())
 }
@@ -337,9 +337,10 @@ fn linked(alloc: Global, links: &str) -> Result<String, Fail> {
 
 #[test]
 fn links_are_told_on_their_lines(rt: HostRuntime) -> Result<(), Fail> {
+    has_rows(&rt, LINKS, 9);
     for row in LINKS.lines().skip(1) {
-        let (line, others) = row.split_once(" | ").ok_or("no row")?;
-        let (links, wanted) = others.split_once(" | ").ok_or("no line")?;
+        let (line, others) = two_cells(&rt, row);
+        let (links, wanted) = two_cells(&rt, others);
         let text = linked(rt.alloc(), links)?;
         is_told_on(&rt, rt.alloc(), text.as_bytes(), line, wanted)?;
     }

@@ -1,0 +1,315 @@
+//! Reports of parts that are merged, and those that are not.
+use crate::check::{check, head_and_lines, is_due};
+use crate::networks::{ENOUGH, planned, report};
+use flow_outcome::{merge_reports, worst_status};
+use flow_pieces::cut_records;
+use flow_plan_outline::outline_of;
+use flow_reading::{Report, read_report};
+use std::alloc::Global;
+use std::process::Abort;
+
+const CHAIN: &[u8] = br#"format = 1
+block = [
+  { name = "in", kind = "buffer", input = true },
+  { name = "t", kind = "transform", work = ["int"] },
+  { name = "out", kind = "action", work = [] },
+]
+link = [
+  { from = "in", to = "t", propagate = true },
+  { from = "t", to = "out", propagate = true },
+]
+"#;
+
+const PAIR: &[u8] = br#"format = 1
+block = [
+  { name = "in", kind = "buffer", input = true },
+  { name = "out", kind = "action", work = [] },
+]
+link = [{ from = "in", to = "out", propagate = true }]
+"#;
+
+/// Chains beside those two whose reports can be merged, each behind a line of its own.
+const CHAINS: &str = r#"
+# four blocks, of which one has lanes
+format = 1
+block = [
+  { name = "in", kind = "buffer", input = true },
+  { name = "t", kind = "transform", work = ["int", "add 1"], lanes = 4 },
+  { name = "b", kind = "buffer" },
+  { name = "out", kind = "action", work = ["text"] },
+]
+link = [
+  { from = "in", to = "t", propagate = true },
+  { from = "t", to = "b", propagate = true },
+  { from = "b", to = "out", propagate = true },
+]
+# several messages from each, and an action with lanes
+format = 1
+block = [
+  { name = "in", kind = "transform_many", work = ["repeat 3", "int"], input = true },
+  { name = "out", kind = "action", work = ["upto"], lanes = 2 },
+]
+link = [{ from = "in", to = "out", propagate = true }]
+# one block
+format = 1
+block = [{ name = "in", kind = "action", work = ["len"], input = true }]
+link = []
+"#;
+
+const CHAIN_RECORDS: &[u8] = b"in,1\nin,\"2\"\n\nin,3\r\nin,4\nin,5";
+
+/// Two inputs, of which a join makes rows.
+const JOIN: &[u8] = br#"format = 1
+block = [
+  { name = "left", kind = "buffer", input = true },
+  { name = "right", kind = "buffer", input = true },
+  { name = "rows", kind = "join" },
+  { name = "out", kind = "action", work = [] },
+]
+link = [
+  { from = "left", to = "rows", propagate = true },
+  { from = "right", to = "rows", port = 1, propagate = true },
+  { from = "rows", to = "out", propagate = true },
+]
+"#;
+
+const JOIN_RECORDS: &[u8] = b"left,1\nright,a\nright,b\nleft,2\nleft,3\nright,c\n";
+
+const JOIN_PARTS: &[&[u8]] = &[
+    b"left,1\nright,a\n",
+    b"",
+    b"right,b\nleft,2\nleft,3\nright,c\n",
+];
+
+/// Of `s` odd numbers may go to `t`, which `a` leads into as well, and all else goes to `u`.
+const PASSED: &[u8] = br#"format = 1
+block = [
+  { name = "a", kind = "buffer", input = true },
+  { name = "s", kind = "transform", work = ["int"], input = true },
+  { name = "t", kind = "action", work = [] },
+  { name = "u", kind = "action", work = [] },
+]
+link = [
+  { from = "a", to = "t", propagate = true },
+  { from = "s", to = "t", when = "odd" },
+  { from = "s", to = "u", propagate = true },
+]
+"#;
+
+/// A report of that network, in which these numbers went to `u`.
+fn passed_report(rt: &impl Abort, alloc: Global, numbers: &str) -> Vec<u8> {
+    let report = format!(in alloc;
+        "block a done\ninput []\nport 0 []\nheld 0 []\nlink 0 []\nleft []\nblock s done\ninput []\nport 0 {numbers}\nheld 0 []\nlink 1 []\nlink 2 {numbers}\nleft []\nblock t done\nport 0 []\nheld 0 []\nrecord []\nblock u done\nport 0 {numbers}\nheld 0 []\nrecord {numbers}\nquiet\n"
+    );
+    match report {
+        Ok(report) => report.into_bytes(),
+        Err(_) => panic!(rt; "out of memory"),
+    }
+}
+
+/// Networks that keep or count something over messages, and why their reports are not merged.
+const REFUSED: &[(&str, &str)] = &[
+    (
+        "kind = \"broadcast\"",
+        "b is a broadcast, and what it makes of the whole is not what it makes of the parts",
+    ),
+    (
+        "kind = \"write_once\"",
+        "b is a write_once, and what it makes of the whole is not what it makes of the parts",
+    ),
+    (
+        "kind = \"batch\"\nsize = 2",
+        "b is a batch, and what it makes of the whole is not what it makes of the parts",
+    ),
+    (
+        "kind = \"batched_join\"\nsize = 2",
+        "b is a batched_join, and what it makes of the whole is not what it makes of the parts",
+    ),
+    (
+        "kind = \"buffer\"\n[[link]]\nfrom = \"b\"\nto = \"c\"\nmax = 9",
+        "link 0 has a max, which counts anew in each part",
+    ),
+    (
+        "kind = \"join\"\ngreedy = false",
+        "b is a join that reserves, and a network with one is not merged",
+    ),
+    (
+        "kind = \"join\"\ngreedy = true",
+        "there is no part to merge",
+    ),
+    ("kind = \"buffer\"", "there is no part to merge"),
+];
+
+/// The reports that these texts are.
+fn read<'t>(rt: &impl Abort, alloc: Global, texts: &'t [Vec<u8>]) -> Vec<Report<'t>> {
+    let mut reports = Vec::new(alloc);
+    for text in texts {
+        let Ok(report) = read_report(alloc, text) else {
+            panic!(rt; "a report could not be read");
+        };
+        assert!(rt; reports.push(report).is_ok(), "out of memory");
+    }
+    reports
+}
+
+/// The report of the whole that these reports of parts come to, or a line that says why they are not merged.
+fn merged(rt: &impl Abort, alloc: Global, network: &[u8], texts: &[Vec<u8>]) -> Vec<u8> {
+    let plan = planned(rt, alloc, network);
+    let Ok(outline) = outline_of(alloc, &plan) else {
+        panic!(rt; "out of memory");
+    };
+    let mut whole = Vec::new(alloc);
+    match merge_reports(&outline, &read(rt, alloc, texts), &mut whole) {
+        Ok(()) => whole,
+        Err(fault) => match fault.to_string(alloc) {
+            Ok(line) => line.into_bytes(),
+            Err(_) => panic!(rt; "out of memory"),
+        },
+    }
+}
+
+/// The worst status of these reports.
+fn worst(rt: &impl Abort, alloc: Global, texts: &[Vec<u8>]) -> u8 {
+    worst_status(&read(rt, alloc, texts))
+}
+
+/// The reports of runs over these parts.
+fn reports(
+    rt: &impl Abort,
+    alloc: Global,
+    network: &[u8],
+    parts: &[&[u8]],
+    limit: u64,
+) -> Vec<Vec<u8>> {
+    let mut reports = Vec::new(alloc);
+    for part in parts {
+        let report = report(rt, alloc, network, part, limit);
+        assert!(rt; reports.push(report).is_ok(), "out of memory");
+    }
+    reports
+}
+
+/// Tests that merging the reports of the parts gives the report of all the records, and that each of them is through.
+fn merges(
+    rt: &(impl Abort + Print),
+    alloc: Global,
+    name: &str,
+    network: &[u8],
+    records: &[u8],
+    parts: &[&[u8]],
+) {
+    let whole = reports(rt, alloc, network, &[records], ENOUGH);
+    check(rt, name, worst(rt, alloc, &whole) == 0);
+    let reports = reports(rt, alloc, network, parts, ENOUGH);
+    check(rt, name, worst(rt, alloc, &reports) == 0);
+    let merged = merged(rt, alloc, network, &reports);
+    check(rt, name, whole.len() == 1 && whole[0] == merged);
+}
+
+/// Tests that the reports of a chain's records, cut in one to four parts, come to the report of all.
+fn merges_chain(rt: &(impl Abort + Print), alloc: Global, name: &str, network: &[u8]) {
+    for count in 1..5 {
+        let Ok(parts) = cut_records(alloc, CHAIN_RECORDS, count) else {
+            panic!(rt; "the records could not be cut");
+        };
+        merges(rt, alloc, name, network, CHAIN_RECORDS, &parts);
+    }
+}
+
+#[test]
+fn parts_come_to_the_whole(rt: HostRuntime) {
+    let alloc = rt.alloc();
+    merges_chain(&rt, alloc, "two blocks", PAIR);
+    merges_chain(&rt, alloc, "three blocks", CHAIN);
+    check(&rt, "three more chains", CHAINS.split("\n# ").count() == 4);
+    for chain in CHAINS.split("\n# ").skip(1) {
+        let (name, network) = head_and_lines(chain);
+        merges_chain(&rt, alloc, name, network.as_bytes());
+    }
+    merges(&rt, alloc, "a join", JOIN, JOIN_RECORDS, JOIN_PARTS);
+}
+
+/// Tests that the reports of these parts are refused so, and that their worst status is this.
+fn is_refused(
+    rt: &(impl Abort + Print),
+    alloc: Global,
+    network: &[u8],
+    reports: &[Vec<u8>],
+    why: &str,
+    status: u8,
+) {
+    let merged = merged(rt, alloc, network, reports);
+    let line = str::from_utf8(&merged).unwrap_or("no UTF-8");
+    is_due(rt, why, why, line);
+    check(rt, why, worst(rt, alloc, reports) == status);
+}
+
+/// The text of a network of a buffer and a block with these options.
+fn beside_a_buffer(rt: &impl Abort, alloc: Global, options: &str) -> String {
+    let text = format!(in alloc;
+        "format = 1\n[[block]]\nname = \"c\"\nkind = \"buffer\"\n[[block]]\nname = \"b\"\n{options}\n"
+    );
+    match text {
+        Ok(text) => text,
+        Err(_) => panic!(rt; "out of memory"),
+    }
+}
+
+#[test]
+fn networks_are_refused(rt: HostRuntime) {
+    let alloc = rt.alloc();
+    for (options, why) in REFUSED {
+        let network = beside_a_buffer(&rt, alloc, options);
+        is_refused(&rt, alloc, network.as_bytes(), &[], why, 0);
+    }
+}
+
+#[test]
+fn parts_are_refused(rt: HostRuntime) {
+    let alloc = rt.alloc();
+    let faulted = reports(&rt, alloc, CHAIN, &[b"in,1\n", b"in,x\n"], ENOUGH);
+    let why = "part 2 has status 1, and only parts with status 0 are merged";
+    is_refused(&rt, alloc, CHAIN, &faulted, why, 1);
+
+    let stopped = reports(&rt, alloc, CHAIN, &[b"in,1\n", b"in,2\n"], 4);
+    let why = "part 1 has status 3, and only parts with status 0 are merged";
+    is_refused(&rt, alloc, CHAIN, &stopped, why, 3);
+
+    let others = reports(&rt, alloc, PAIR, &[b"in,1\n"], ENOUGH);
+    let why = "part 1: the report is of another network: it has 2 blocks, and the network 3";
+    is_refused(&rt, alloc, CHAIN, &others, why, 0);
+
+    let uneven = reports(
+        &rt,
+        alloc,
+        JOIN,
+        &[b"left,1\nright,a\n", b"left,2\n"],
+        ENOUGH,
+    );
+    let why = "part 2 has status 1, and only parts with status 0 are merged";
+    is_refused(&rt, alloc, JOIN, &uneven, why, 1);
+}
+
+/// The list of these reports.
+fn list(rt: &impl Abort, alloc: Global, texts: &[&[u8]]) -> Vec<Vec<u8>> {
+    let mut list = Vec::new(alloc);
+    for text in texts {
+        let Ok(text) = text.to_vec(alloc) else {
+            panic!(rt; "out of memory");
+        };
+        assert!(rt; list.push(text).is_ok(), "out of memory");
+    }
+    list
+}
+
+#[test]
+fn ends_in_parts_are_seen(rt: HostRuntime) {
+    let alloc = rt.alloc();
+    let even = passed_report(&rt, alloc, "[2,4]");
+    let odd = passed_report(&rt, alloc, "[2,3]");
+    let one = list(&rt, alloc, &[&even]);
+    check(&rt, "even", merged(&rt, alloc, PASSED, &one) == even);
+    let two = list(&rt, alloc, &[&even, &odd]);
+    let why = "part 2: link 2 carried what link 1 admits, maybe because the part was at its end";
+    is_refused(&rt, alloc, PASSED, &two, why, 0);
+}
