@@ -1,16 +1,13 @@
 //! Why nothing is told of a network and a report.
 use crate::fit::Misfit;
 use std::io;
-use thiserror::Error;
 
 /// Why nothing is told of a network and a report.
-#[derive(Clone, Copy, Debug, Error)]
+#[derive(Clone, Copy)]
 pub enum TellFault {
     /// The report is of another network.
-    #[error("{0}")]
     Misfit(Misfit),
     /// The writer failed.
-    #[error("what is to be told can't be written")]
     Write,
 }
 

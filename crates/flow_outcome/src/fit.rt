@@ -4,19 +4,30 @@ ghost use Rattle.std.specs.Prelude.{◌≡◌, vec_len, OnOk};
 use crate::kind::Kind;
 use crate::outline::{BlockOutline, Outline};
 use flow_reading::{BlockReport, Kept, Report};
-use thiserror::Error;
+use std::fmt;
 
 /// How a report shows that it is none of a network.
-#[derive(Clone, Copy, Debug, Error)]
+#[derive(Clone, Copy)]
 pub enum Misfit {
-    #[error("the report is of another network: it has {report} blocks, and the network {network}")]
+    /// The network and the report have these numbers of blocks.
     Count { network: usize, report: usize },
     /// The block with this number, from 0, has another name, or other lines than its kind.
-    #[error("the report is of another network: block {0} is another one there")]
     Block(usize),
     /// The block with this number, from 0, has other links.
-    #[error("the report is of another network: block {0} has other links there")]
     Links(usize),
+}
+
+impl fmt::Display for Misfit {
+    fn fmt<W: fmt::Write>(&self, f: &mut fmt::Formatter<W>) -> fmt::Result {
+        f.write_str("the report is of another network: ")?;
+        match *self {
+            Misfit::Count { network, report } => {
+                write!(f, "it has {report} blocks, and the network {network}")
+            }
+            Misfit::Block(number) => write!(f, "block {number} is another one there"),
+            Misfit::Links(number) => write!(f, "block {number} has other links there"),
+        }
+    }
 }
 
 /// Tells where a report differs from what every report of the network has: names, ports, links, inputs and exits.

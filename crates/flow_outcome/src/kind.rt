@@ -2,7 +2,7 @@
 use std::fmt;
 
 /// What a block does with its messages.
-#[derive(Clone, Copy, Debug)]
+#[derive(Clone, Copy)]
 pub enum Kind {
     Buffer,
     Broadcast,

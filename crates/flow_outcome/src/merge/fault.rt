@@ -1,35 +1,62 @@
 //! Why reports are not merged.
 use crate::fit::Misfit;
 use crate::kind::Kind;
-use thiserror::Error;
+use std::fmt;
 
 /// Why the reports of parts are not merged. Parts are counted from 1, links from 0 as in a network.
-#[derive(Clone, Copy, Debug, Error)]
+#[derive(Clone, Copy)]
 pub enum MergeFault<'n> {
-    #[error("there is no part to merge")]
+    /// There is none.
     NoPart,
     /// The block with this name is of a kind that keeps something from one message to the next.
-    #[error("{0} is a {1}, and what it makes of the whole is not what it makes of the parts")]
     Kind(&'n str, Kind),
     /// The join with this name reserves.
-    #[error("{0} is a join that reserves, and a network with one is not merged")]
     Reserves(&'n str),
     /// This link has a `max`.
-    #[error("link {0} has a max, which counts anew in each part")]
     Max(usize),
     /// The report of this part is not one of the network.
-    #[error("part {0}: {1}")]
     Misfit(usize, Misfit),
     /// This part ended with this status, and not with 0.
-    #[error("part {0} has status {1}, and only parts with status 0 are merged")]
     Status(usize, u8),
     /// In this part a link carried what an earlier one admits, whose target may have ended before.
-    #[error("part {part}: link {link} carried what link {earlier} admits, maybe because the part was at its end")]
     Passed {
         part: usize,
         link: usize,
         earlier: usize,
     },
-    #[error("the report could not be written")]
+    /// The writer failed.
     Write,
+}
+
+impl fmt::Display for MergeFault<'_> {
+    fn fmt<W: fmt::Write>(&self, f: &mut fmt::Formatter<W>) -> fmt::Result {
+        match *self {
+            MergeFault::NoPart => f.write_str("there is no part to merge"),
+            MergeFault::Kind(name, kind) => write!(
+                f,
+                "{name} is a {kind}, and what it makes of the whole is not what it makes of the parts"
+            ),
+            MergeFault::Reserves(name) => write!(
+                f,
+                "{name} is a join that reserves, and a network with one is not merged"
+            ),
+            MergeFault::Max(link) => {
+                write!(f, "link {link} has a max, which counts anew in each part")
+            }
+            MergeFault::Misfit(part, misfit) => write!(f, "part {part}: {misfit}"),
+            MergeFault::Status(part, status) => write!(
+                f,
+                "part {part} has status {status}, and only parts with status 0 are merged"
+            ),
+            MergeFault::Passed {
+                part,
+                link,
+                earlier,
+            } => write!(
+                f,
+                "part {part}: link {link} carried what link {earlier} admits, maybe because the part was at its end"
+            ),
+            MergeFault::Write => f.write_str("the report could not be written"),
+        }
+    }
 }

@@ -1,27 +1,35 @@
 //! Why there are no results.
 use flow_reading::ReadError;
 use std::alloc::{AllocError, AllocFailed};
-use std::io;
-use thiserror::Error;
+use std::{fmt, io};
 
 /// Why results can't be written.
-#[derive(Clone, Copy, Debug, Error)]
+#[derive(Clone, Copy)]
 pub enum ResultsError<'a> {
     /// The text is no report.
-    #[error("{0}")]
     Report(ReadError),
-    /// A block that was asked for is not in the report.
-    #[error("the report has no block {0}")]
+    /// The block with this name was asked for, and is not in the report.
     NoBlock(&'a str),
-    /// A block that was asked for is no action, and records nothing.
-    #[error("block {0} is no action, so it has no results")]
+    /// The block with this name was asked for, and is no action, so it records nothing.
     NoAction(&'a str),
     /// The writer failed.
-    #[error("the results can't be written")]
     Write,
     /// There was no memory for it.
-    #[error("memory")]
     Memory,
+}
+
+impl fmt::Display for ResultsError<'_> {
+    fn fmt<W: fmt::Write>(&self, f: &mut fmt::Formatter<W>) -> fmt::Result {
+        match *self {
+            ResultsError::Report(error) => write!(f, "{error}"),
+            ResultsError::NoBlock(name) => write!(f, "the report has no block {name}"),
+            ResultsError::NoAction(name) => {
+                write!(f, "block {name} is no action, so it has no results")
+            }
+            ResultsError::Write => f.write_str("the results can't be written"),
+            ResultsError::Memory => f.write_str("memory"),
+        }
+    }
 }
 
 impl From<AllocError> for ResultsError<'_> {
