@@ -1,0 +1,84 @@
+//! What the tests of parts share: links and messages, what a row is, and what blocks make and how they end.
+ghost use Rattle.std.specs.Prelude.{◌≡◌, false};
+ghost use Rattle.flow_block_rows.specs.Driven.{link_to};
+
+use flow_link::{Completing, DataflowBlock, LinkId, Outcome};
+use flow_outlet::LinkRule;
+use flow_value::{MessageHeader, Parcel, Value, When};
+use std::alloc::Global;
+use std::process::Abort;
+
+/// A link that carries every message, to a target that may put it off.
+pub(crate) fn link(id: LinkId) -> LinkRule
+    ensures { result ≡ link_to id }
+{
+    LinkRule {
+        id,
+        when: When::Any,
+        max: None,
+        passes: true,
+        steady: false,
+        sole: false,
+    }
+}
+
+/// Whether a value is a row of these numbers.
+pub(crate) fn is_row(value: &Value, numbers: &[i64]) -> bool {
+    match value.as_items() {
+        Some(items) => items
+            .iter()
+            .map(Value::as_int)
+            .eq(numbers.iter().copied().map(Some)),
+        None => false,
+    }
+}
+
+/// Whether these are one number alone.
+pub(crate) fn is_only(values: &[Value], number: i64) -> bool {
+    match values {
+        [only] => only.as_int() == Some(number),
+        _ => false,
+    }
+}
+
+/// A number as a message.
+pub(crate) fn parcel(rt: &impl Abort, alloc: Global, number: i64) -> Parcel {
+    let Ok(parcel) = Parcel::new(alloc, Value::Int(number)) else {
+        panic!(rt; "out of memory");
+    };
+    parcel
+}
+
+/// The header with this id.
+pub(crate) fn header(rt: &impl Abort, id: u64) -> MessageHeader {
+    let Some(header) = MessageHeader::new(id) else {
+        panic!(rt; "no id");
+    };
+    header
+}
+
+/// The block makes something, or it has nothing to make.
+pub(crate) fn makes<B: DataflowBlock>(
+    rt: &impl Abort,
+    alloc: Global,
+    block: &mut B,
+    something: bool,
+)
+    ensures { (something ≡ false) → block.new ≡ block.old }
+{
+    let Ok(made) = block.make(alloc) else {
+        panic!(rt; "out of memory or of ids");
+    };
+    if made != something {
+        panic!(rt; "it makes something: {made}");
+    }
+}
+
+/// The block has ended so, or it goes on.
+pub(crate) fn tells<B: Completing>(rt: &impl Abort, block: &mut B, outcome: Option<Outcome>)
+    ensures { B.learns block.old block.new }
+{
+    if block.completion() != outcome {
+        panic!(rt; "it has ended otherwise");
+    }
+}

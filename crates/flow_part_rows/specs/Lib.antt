@@ -1,3 +1,0 @@
-pub mod Driven
-pub mod Jobs
-pub mod Reserved
