@@ -8,8 +8,7 @@ use crate::check::check;
 use crate::driven::block;
 use crate::reserving::{offer, waits};
 use crate::script::{does, takes};
-use crate::shared::{header, is_row, tells};
-use flow_block::Block;
+use crate::shared::{has_row, header, tells};
 use flow_link::{BlockKind, DataflowBlock, Outcome, TargetBlock, WishAnswer};
 use flow_value::MessageStatus;
 
@@ -60,14 +59,6 @@ fn a_faulted_block_ends_once(rt: HostRuntime) {
     tells(&rt, &mut faulted, Some(Outcome::Faulted(3)));
 }
 
-/// Whether the block has one row to give first, of these numbers.
-fn has_row(block: &Block, numbers: &[i64]) -> bool {
-    match block.left().front() {
-        Some(row) => is_row(row, numbers),
-        None => false,
-    }
-}
-
 #[test]
 fn a_completed_batch_makes_its_remainder(rt: HostRuntime) {
     let (rt, alloc) = (&rt, rt.alloc());
@@ -76,6 +67,6 @@ fn a_completed_batch_makes_its_remainder(rt: HostRuntime) {
     assert!(rt; batch.port_count() == 1);
     batch.close_port(0);
     does(rt, alloc, &mut batch, "makes");
-    check(rt, "its remainder is a row", has_row(&batch, &[5]));
+    check(rt, "its remainder is a row", has_row(batch.left(), &[5]));
     does(rt, alloc, &mut batch, "ends not");
 }

@@ -5,11 +5,11 @@ ghost use Rattle.flow_block_rows.specs.Driven.{Rests};
 
 use crate::check::check;
 use crate::script::takes;
-use crate::shared::{is_only, link};
+use crate::shared::{are, has_left, link};
 use flow_exec::{EndFault, Execution, JobResult};
 use flow_link::BlockKind;
 use flow_outlet::LinkRule;
-use flow_value::{Steps, Value};
+use flow_value::Steps;
 use std::alloc::Global;
 use std::process::Abort;
 use std::sync::Arc;
@@ -121,14 +121,6 @@ fn is_strange(block: &mut Execution<Steps>, done: JobResult<Steps>) -> bool {
     matches!(block.end(done), Err((_, EndFault::Strange)))
 }
 
-/// The numbers are left to be given.
-fn leaves(rt: &impl Abort, block: &Execution<Steps>, numbers: &[i64]) {
-    let left = block.left().iter().map(Value::as_int);
-    if !left.eq(numbers.iter().copied().map(Some)) {
-        panic!(rt; "something else is left");
-    }
-}
-
 #[test]
 fn tickets_return_out_of_order(rt: HostRuntime) {
     let (rt, alloc) = (&rt, rt.alloc());
@@ -138,9 +130,9 @@ fn tickets_return_out_of_order(rt: HostRuntime) {
     let second = run_next(rt, alloc, &mut block, 1);
     begins_none(rt, alloc, &mut block);
     bring_back(rt, &mut block, second);
-    leaves(rt, &block, &[]);
+    check(rt, "what is left", has_left(block.left(), &[]));
     bring_back(rt, &mut block, first);
-    leaves(rt, &block, &[1, 2]);
+    check(rt, "what is left", has_left(block.left(), &[1, 2]));
     let again = second_result(rt, alloc);
     check(rt, "it is of another", is_strange(&mut block, again));
 }
@@ -156,16 +148,16 @@ fn a_result_that_waits_keeps_no_lane_busy(rt: HostRuntime) {
     let third = run_next(rt, alloc, &mut block, 2);
     begins_none(rt, alloc, &mut block);
     bring_back(rt, &mut block, third);
-    leaves(rt, &block, &[]);
+    check(rt, "what is left", has_left(block.left(), &[]));
     bring_back(rt, &mut block, first);
-    leaves(rt, &block, &[1, 2, 3]);
+    check(rt, "what is left", has_left(block.left(), &[1, 2, 3]));
 }
 
 #[test]
 fn an_action_records(rt: HostRuntime) {
     let mut block = action(&rt, rt.alloc());
     work_on(&rt, rt.alloc(), &mut block, "0 '5");
-    check(&rt, "its record", is_only(block.recorded(), 5));
+    check(&rt, "its record", are(block.recorded(), &[5]));
     check(&rt, "its work", block.work().is_some());
     check(&rt, "its kind", block.block().kind() == BlockKind::Action);
 }

@@ -1,5 +1,5 @@
-//! Tests of each part of a network by itself: plans and phases, ports, outlets, spreads, blocks and their jobs; of blocks by their
-//! types, each made of a small plan; and of the lanes of a block, on one thread and on two.
+//! Tests of each part of a network by itself: plans and phases, ports, outlets, spreads, blocks and their jobs; of blocks by
+//! their types, each made of a small plan; and of the lanes of a block, on one thread and on two.
 #![tactic(auto)]
 
 #[cfg(test)]

@@ -1,5 +1,5 @@
 //! An outlet by itself, with the test in the place of its targets.
-use crate::shared::{header, link};
+use crate::shared::{are, has_left, header, link};
 use flow_link::LinkId;
 use flow_outlet::{Outlet, OutletFault};
 use flow_value::{MAX_ID, MessageHeader, MessageStatus, Parcel, Value};
@@ -138,7 +138,7 @@ impl Case {
             Call::Reserve(link) => Ok(self.reserve(link)),
             Call::Release(link) => Ok(self.release(link)),
             Call::Room => Ok(Done::Room(self.outlet.room_back())),
-            Call::Left(numbers) => Ok(Done::Left(has_left(&self.outlet, numbers))),
+            Call::Left(numbers) => Ok(Done::Left(has_left(self.outlet.left(), numbers))),
         }
     }
 
@@ -226,23 +226,6 @@ fn number_in(parcel: &Parcel) -> Done {
         Some(number) => Done::Gave(number),
         None => Done::Strange,
     }
-}
-
-/// Whether the numbers are what is left in an outlet.
-fn has_left(outlet: &Outlet, numbers: &[i64]) -> bool {
-    outlet
-        .left()
-        .iter()
-        .map(Value::as_int)
-        .eq(numbers.iter().copied().map(Some))
-}
-
-/// Whether the values are these numbers.
-fn are(values: &[Value], numbers: &[i64]) -> bool {
-    values
-        .iter()
-        .map(Value::as_int)
-        .eq(numbers.iter().copied().map(Some))
 }
 
 /// Does these calls with an outlet whose first message has this id.

@@ -126,8 +126,8 @@ fn take_kept<S: SourceBlock>(
     );
 }
 
-/// A block of this kind that has taken these messages, made each, and keeps the first for link 7, after both links put it off with
-/// these headers.
+/// A block of this kind that has taken these messages, made each, and keeps the first for link 7, after both links put it off
+/// with these headers.
 fn keeping(
     rt: &(impl Abort + Print),
     alloc: Global,

@@ -8,7 +8,7 @@ ghost use Rattle.flow_reserving.specs.ReservingJoin.{fresh_join};
 ghost use Rattle.flow_block_rows.specs.Driven.{reserving_ports, two_sources, link_to};
 
 use crate::check::check;
-use crate::shared::{header, is_row, link, makes, parcel};
+use crate::shared::{has_row, header, link, makes, parcel};
 use flow_group::Source;
 use flow_intake::Intake;
 use flow_link::{LinkId, TargetBlock, Wish, WishAnswer};
@@ -146,15 +146,7 @@ fn it_takes_one_message_of_each_port(rt: HostRuntime) {
     makes(rt, alloc, &mut join, false);
     claims(rt, alloc, &mut join, 1, two, 9);
     makes(rt, alloc, &mut join, true);
-    check(rt, "it has a tuple", has_tuple(&join, &[5, 9]));
-}
-
-/// Whether the join has a tuple of these numbers to give first.
-fn has_tuple(join: &ReservingJoin, numbers: &[i64]) -> bool {
-    match join.left().front() {
-        Some(tuple) => is_row(tuple, numbers),
-        None => false,
-    }
+    check(rt, "it has a tuple", has_row(join.left(), &[5, 9]));
 }
 
 #[test]

@@ -1,7 +1,7 @@
 //! Lines of calls that all blocks have in common. The test plays what is at the far end of each link.
 //!
-//! A block takes messages such as `0 5, 1 '6`: the number 5 over link 0, and then the text 6 over link 1. A source does calls with
-//! a semicolon between them:
+//! A block takes messages such as `0 5, 1 '6`: the number 5 over link 0, and then the text 6 over link 1. A source does calls
+//! with a semicolon between them:
 //!
 //! call              what has to come of it
 //! makes             it makes something; `makes nothing` where there is nothing to make

@@ -4,6 +4,7 @@ ghost use Rattle.flow_block_rows.specs.Driven.{Rests};
 
 use crate::lane_jobs;
 use crate::script::takes;
+use crate::shared::has_left;
 use flow_exec::{Execution, Job};
 use flow_lane::{Lane, LaneItem, LanePhase, LaneState};
 use flow_value::Steps;
@@ -72,14 +73,6 @@ fn work_off(rt: &impl Abort, alloc: Global, transform: &mut Execution<Steps>, jo
     };
 }
 
-/// Whether this number came out first.
-fn is_first(transform: &Execution<Steps>, number: i64) -> bool {
-    match transform.left().front() {
-        Some(value) => value.as_int() == Some(number),
-        None => false,
-    }
-}
-
 #[test]
 fn a_second_put_gives_the_job_back(rt: HostRuntime) {
     let alloc = rt.alloc();
@@ -90,5 +83,5 @@ fn a_second_put_gives_the_job_back(rt: HostRuntime) {
     let job = job_in(&rt, closed_after_two(&rt, alloc, first, second));
     assert!(rt; job.ticket() == 0);
     work_off(&rt, alloc, &mut transform, job);
-    assert!(rt; is_first(&transform, 15));
+    assert!(rt; has_left(transform.left(), &[15]));
 }

@@ -6,6 +6,7 @@ use flow_link::{Completing, DataflowBlock, LinkId, Outcome};
 use flow_outlet::LinkRule;
 use flow_value::{MessageHeader, Parcel, Value, When};
 use std::alloc::Global;
+use std::collections::VecDeque;
 use std::process::Abort;
 
 /// A link that carries every message, to a target that may put it off.
@@ -22,22 +23,43 @@ pub(crate) fn link(id: LinkId) -> LinkRule
     }
 }
 
+/// Whether the values are these numbers.
+pub(crate) fn are(values: &[Value], numbers: &[i64]) -> bool {
+    let mut values = values.iter();
+    for number in numbers {
+        match values.next() {
+            Some(value) if value.as_int() == Some(*number) => {}
+            _ => return false,
+        }
+    }
+    values.next().is_none()
+}
+
+/// Whether what is left to be given are these numbers.
+pub(crate) fn has_left(left: &VecDeque<Value>, numbers: &[i64]) -> bool {
+    let mut values = left.iter();
+    for number in numbers {
+        match values.next() {
+            Some(value) if value.as_int() == Some(*number) => {}
+            _ => return false,
+        }
+    }
+    values.next().is_none()
+}
+
 /// Whether a value is a row of these numbers.
 pub(crate) fn is_row(value: &Value, numbers: &[i64]) -> bool {
     match value.as_items() {
-        Some(items) => items
-            .iter()
-            .map(Value::as_int)
-            .eq(numbers.iter().copied().map(Some)),
+        Some(items) => are(items, numbers),
         None => false,
     }
 }
 
-/// Whether these are one number alone.
-pub(crate) fn is_only(values: &[Value], number: i64) -> bool {
-    match values {
-        [only] => only.as_int() == Some(number),
-        _ => false,
+/// Whether what is given next is a row of these numbers.
+pub(crate) fn has_row(left: &VecDeque<Value>, numbers: &[i64]) -> bool {
+    match left.front() {
+        Some(row) => is_row(row, numbers),
+        None => false,
     }
 }
 

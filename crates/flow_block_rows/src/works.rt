@@ -2,7 +2,7 @@
 use crate::check::check;
 use crate::plans::execution;
 use crate::script::{does, takes};
-use crate::shared::{is_only, makes, tells};
+use crate::shared::{are, makes, tells};
 use flow_exec::{EndFault, JobResult};
 use flow_kinds::kind::WorkKind;
 use flow_kinds::{Action, Transform, TransformMany, TypedExecution};
@@ -48,7 +48,7 @@ fn a_typed_action_records(rt: HostRuntime) {
     takes(rt, alloc, &mut action, "0 '5");
     makes(rt, alloc, &mut action, false);
     work(rt, alloc, &mut action, 0);
-    check(rt, "its record", is_only(action.record(), 5));
+    check(rt, "its record", are(action.record(), &[5]));
     tells(rt, &mut action, None);
 }
 
