@@ -1,5 +1,5 @@
 //! Exits: a caller may receive from a block, but nobody asks here, so each message that is offered there is put off.
-use crate::cases::{check_drafts, fault_of};
+use crate::cases::{check_cases, fault_of};
 use flow_link::{Place, PlanFault};
 use std::test::Fail;
 
@@ -73,5 +73,5 @@ in,1 in,x in,2
 
 #[test]
 fn what_nobody_asks_for_stays_in_its_block(rt: HostRuntime) -> Result<(), Fail> {
-    check_drafts(&rt, rt.alloc(), EXITS)
+    check_cases(&rt, rt.alloc(), EXITS)
 }

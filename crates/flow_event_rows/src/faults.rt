@@ -1,7 +1,6 @@
 //! Two faults that come over links into one block: which of them counts.
-use crate::cases::read_case;
 use flow_link::{LinkEnd, Move};
-use flow_trial::{Asked, is_done};
+use flow_trial::{Asked, is_done, read_case};
 use std::test::Fail;
 
 /// Link 0 leads into the second port of a join, and link 1 into its first; the inputs fault with 5 and with 9.

@@ -1,55 +1,8 @@
 //! Joins: a row of one message from each port, as long as each port has one.
 use crate::cases::{check_cases, fault_of};
 use flow_link::{Place, PlanFault};
+use flow_trial::JOINS;
 use std::test::Fail;
-
-const JOINS: &str = r#"
-greedy join leaves
-a* buffer, b* buffer, j join ports 2, out action(), a -> j, b -> j port 1, j -> out
-a,1 a,2 a,3 b,9
-1 block a done ; block b done ; block j open ; port 0 ["1","2","3"] ; held 0 ["2","3"] ; port 1 ["9"] ; held 1 [] ; left [] ; block out open ; record [["1","9"]] ; quiet
-
-a pair for each
-a* buffer, b* buffer, j join, out action(), a => j, b => j port 1, j => out
-a,1 b,x a,2 b,y
-0 block a done ; block b done ; block j done ; held 0 [] ; held 1 [] ; left [] ; block out done ; record [["1","x"],["2","y"]] ; quiet
-
-three ports
-a* buffer, b* buffer, c* buffer, j join ports 3, out action(), a => j, b => j port 1, c => j port 2, j => out
-a,1 a,2 b,3 b,4 c,5 c,6
-0 block j done ; held 0 [] ; held 1 [] ; held 2 [] ; block out done ; record [["1","3","5"],["2","4","6"]] ; quiet
-
-three ports, of which one has less
-a* buffer, b* buffer, c* buffer, j join ports 3, out action(), a -> j, b -> j port 1, c -> j port 2, j -> out
-a,1 a,2 b,3 c,4 c,5
-1 block j open ; port 0 ["1","2"] ; held 0 ["2"] ; held 1 [] ; port 2 ["4","5"] ; held 2 ["5"] ; left [] ; block out open ; record [["1","3","4"]] ; quiet
-
-room for one message at each port
-a* buffer, b* buffer, j join ports 2 capacity 1, out action(), a => j, b => j port 1, j => out
-a,1 a,2 a,3 b,7 b,8 b,9
-0 block a done ; block b done ; block j done ; block out done ; record [["1","7"],["2","8"],["3","9"]] ; quiet
-
-room for one message, and no partner
-a* buffer, b* buffer, j join ports 2 capacity 1, out action(), a -> j, b -> j port 1, j -> out
-a,1 a,2 b,9
-1 block a done ; block b done ; block j open ; port 0 ["1","2"] ; held 0 ["2"] ; held 1 [] ; left [] ; record [["1","9"]] ; quiet
-
-rows that are added up
-a* buffer, b* buffer, t transform(int), u transform(int), j join ports 2, out action(sum), a => t, b => u, t => j, u => j port 1, j => out
-a,1 a,2 b,10 b,20
-0 block j done ; block out done ; record [11,22] ; quiet
-
-two links into one port
-a* buffer, b* buffer, c* buffer, t transform(len), u transform(len), v transform(int), j join ports 2, out action(), a => t, b => u, c => v, t -> j, u -> j, v -> j port 1, j -> out
-a,x b,y c,7 c,8
-1 block j open ; port 0 [1,1] ; held 0 [] ; port 1 [7,8] ; held 1 [] ; block out open ; record [[1,7],[1,8]] ; quiet
-
-a fault at one source
-a* buffer, b* buffer, t transform(int), j join ports 2, out action(), a => t, t => j, b => j port 1, j => out
-a,x b,9
-1 block t faulted 1 ; held 0 ["x"] ; block j faulted 1 ; held 0 [] ; port 1 ["9"] ; held 1 ["9"] ; left [] ; block out faulted 1 ; record [] ; quiet
-1 block b completing ; left ["9"] ; block t faulted 1 ; held 0 ["x"] ; block j faulted 1 ; held 0 [] ; port 1 [] ; held 1 [] ; left [] ; block out faulted 1 ; record [] ; quiet
-"#;
 
 #[test]
 fn joins_make_pairs_and_triples(rt: HostRuntime) -> Result<(), Fail> {

@@ -26,5 +26,3 @@ mod lanes;
 mod reserving;
 #[cfg(test)]
 mod scripts;
-#[cfg(test)]
-mod shares;

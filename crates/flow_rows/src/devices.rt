@@ -1,9 +1,10 @@
 //! Readers and writers that fail, and memory that runs out.
+use crate::told::{ran, told_by};
 use flow_link::PlanFault;
 use flow_net::Settled;
 use flow_run::{Ran, RunRefusal, write_refusal};
 use flow_text::{TextFault, TextRefusal, read_plan};
-use flow_trial::{ENOUGH, is_refusal, is_report, ran, told_by};
+use flow_trial::{ENOUGH, is_refusal, is_report};
 use std::alloc::Global;
 use std::io;
 use std::io::{Read, Write};

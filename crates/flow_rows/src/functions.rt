@@ -1,6 +1,7 @@
 //! What each function makes of a text, as an action's record or a fault's number tells it.
 use crate::check::check;
-use flow_trial::{ENOUGH, Told, chain, has_lines, told_by};
+use crate::told::{Told, told_by};
+use flow_trial::{ENOUGH, chain, has_lines};
 use flow_words::cells;
 use std::alloc::Global;
 use std::process::Abort;

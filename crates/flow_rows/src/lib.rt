@@ -3,12 +3,18 @@
 #![tactic(auto)]
 
 #[cfg(test)]
+mod cases;
+#[cfg(test)]
 mod check;
 #[cfg(test)]
 mod devices;
 #[cfg(test)]
 mod functions;
 #[cfg(test)]
+mod lanes;
+#[cfg(test)]
 mod refused;
 #[cfg(test)]
 mod texts;
+#[cfg(test)]
+mod told;

@@ -1,6 +1,7 @@
 //! Networks that are refused, each with its line, and some that are read and look as if they were not.
 use crate::check::check;
-use flow_trial::{ENOUGH, add, chain, has_lines, is_refusal, is_report, told_by};
+use crate::told::told_by;
+use flow_trial::{ENOUGH, add, chain, has_lines, is_refusal, is_report};
 use std::alloc::{AllocError, Global};
 use std::io;
 use std::io::Write;

@@ -2,11 +2,12 @@
 ghost use Rattle.std.specs.Prelude.{◌≤◌};
 
 use crate::check::check;
+use crate::told::{Told, kept, told_by, told_with};
 use flow_front::record_of;
 use flow_link::{Place, PlanFault};
 use flow_run::{RunRefusal, split_input, status, write_refusal};
 use flow_text::{TextFault, TextPlace};
-use flow_trial::{ENOUGH, Told, chain, is_refusal, is_report, kept, told_by, told_with};
+use flow_trial::{ENOUGH, chain, is_refusal, is_report};
 use flow_value::Value;
 use std::alloc::Global;
 use std::process::Abort;

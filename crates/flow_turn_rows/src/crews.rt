@@ -3,12 +3,12 @@ ghost use Rattle.std.specs.Prelude.{◌≤◌, ◌<◌};
 
 use crate::ends::has_ended;
 use crate::journals::{go_on, journals};
-use crate::midway::in_mid_move;
-use crate::networks::network;
-use crate::rows::{Row, branches, chains, copies, joins, one_message};
+use crate::midway::{in_mid_move, one_message};
+use crate::networks::{case_of, network_of};
 use flow_board::OpenGate;
 use flow_crew::run_workers;
 use flow_net::{Net, Settled};
+use flow_trial::TABLES;
 use flow_value::Steps;
 use std::alloc::Global;
 use std::process::Abort;
@@ -30,24 +30,24 @@ fn ran(
     net
 }
 
-/// Asserts that each of these runs comes to its end by so many workers.
-fn each_ends(rt: &(impl Abort + Threads + Wait + Sync), alloc: Global, rows: &[Row], workers: usize)
+/// Asserts that each case of a table comes to its end by so many workers.
+fn each_ends(rt: &(impl Abort + Threads + Wait + Sync), alloc: Global, table: &str, workers: usize)
     requires workers { (0 < workers) × (workers ≤ 64) }
 {
-    for row in rows {
-        let net = ran(rt, alloc, network(rt, alloc, row.text), workers);
-        has_ended(rt, alloc, &net, row);
+    for lines in table.trim().split("\n\n") {
+        let case = case_of(rt, lines);
+        let net = ran(rt, alloc, network_of(rt, alloc, &case), workers);
+        has_ended(rt, alloc, &net, &case);
     }
 }
 
-/// Asserts that all runs come to their ends by so many workers.
+/// Asserts that all cases come to their ends by so many workers.
 fn all_end(rt: &(impl Abort + Threads + Wait + Sync), alloc: Global, workers: usize)
     requires workers { (0 < workers) × (workers ≤ 64) }
 {
-    each_ends(rt, alloc, chains(), workers);
-    each_ends(rt, alloc, branches(), workers);
-    each_ends(rt, alloc, copies(), workers);
-    each_ends(rt, alloc, joins(), workers);
+    for table in TABLES {
+        each_ends(rt, alloc, table, workers);
+    }
 }
 
 #[test]
@@ -72,5 +72,5 @@ fn a_message_that_is_gathered_in_mid_move_arrives_once_by_workers(rt: HostRuntim
     let kept = journals(&rt, alloc, &net);
     let net = ran(&rt, alloc, net, 2);
     go_on(&rt, alloc, &net, &kept);
-    has_ended(&rt, alloc, &net, one_message());
+    has_ended(&rt, alloc, &net, &one_message(&rt));
 }

@@ -1,4 +1,4 @@
-//! Tests of runs that are scattered into tasks: networks and records as texts, turned by one thread or by two, run by a crew, fed by
+//! Tests of runs that are scattered into tasks: networks of tables, each with its records, turned by one thread or by two, run by a crew, fed by
 //! another thread, stopped anywhere and gathered. Each comes to the end that is due of it. Tests of crews: rounds of them, what they do at
 //! one time, and where they stop.
 #![tactic(auto)]
@@ -30,11 +30,7 @@ mod paced;
 #[cfg(test)]
 mod rounds;
 #[cfg(test)]
-mod rows;
-#[cfg(test)]
 mod sends;
-#[cfg(test)]
-mod shares;
 #[cfg(test)]
 mod stops;
 #[cfg(test)]

@@ -1,8 +1,8 @@
 //! A network is run by so many workers, until nothing may happen any more or the limit is reached.
 ghost use Rattle.std.specs.Prelude.{◌≤◌, ◌<◌};
 
-use crate::networks::network;
-use crate::rows::parse_three;
+use crate::midway::parse_three;
+use crate::networks::network_of;
 use flow_board::OpenGate;
 use flow_crew::run_workers;
 use flow_front::{record_of, state_of};
@@ -25,7 +25,7 @@ fn run<R: Abort + Threads + Wait + Sync>(
 ) -> (Net<Steps>, Settled)
     requires workers { (0 < workers) × (workers ≤ 64) }
 {
-    let net = network(rt, alloc, parse_three().text);
+    let net = network_of(rt, alloc, &parse_three(rt));
     let Ok(ran) = run_workers(rt, alloc, net, workers, &OpenGate, limit) else {
         panic!(rt; "out of memory");
     };

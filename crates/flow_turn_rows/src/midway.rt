@@ -2,16 +2,26 @@
 
 use crate::ends::has_ended;
 use crate::journals::{go_on, journals};
-use crate::networks::network;
-use crate::rows::{one_message, parse_three};
+use crate::networks::{named, network_of};
 use crate::turned::{Way, turned};
 use flow_exec::JobResult;
 use flow_link::{LinkId, Move, Phase};
 use flow_net::{Event, Net, NetFault, Stepped};
+use flow_trial::{CHAINS, Case};
 use flow_value::{MessageHeader, Steps};
 use std::alloc::Global;
 use std::process::Abort;
 use std::thread::Threads;
+
+/// The run of one message.
+pub(crate) fn one_message(rt: &impl Abort) -> Case<'static> {
+    named(rt, CHAINS, "one message")
+}
+
+/// The run of three numbers.
+pub(crate) fn parse_three(rt: &impl Abort) -> Case<'static> {
+    named(rt, CHAINS, "parse three")
+}
 
 /// Does this event, by which no job begins.
 fn does(rt: &impl Abort, alloc: Global, net: &mut Net<Steps>, event: Event<Steps>) {
@@ -50,12 +60,13 @@ fn kept_result(rt: &impl Abort, alloc: Global, net: &mut Net<Steps>) -> JobResul
 
 /// Asserts that a run whose first job was begun before comes to its end by turns, and refuses what came of that job.
 fn result_comes_too_late(rt: &(impl Abort + Threads + Sync), alloc: Global, way: Way) {
-    let mut net = network(rt, alloc, parse_three().text);
+    let case = parse_three(rt);
+    let mut net = network_of(rt, alloc, &case);
     let done = kept_result(rt, alloc, &mut net);
     let mut net = turned(rt, alloc, net, way);
     let refused = net.event(alloc, Event::End(1, done));
     assert!(rt; matches!(refused, Err((Event::End(1, _), NetFault::NotEnabled))));
-    has_ended(rt, alloc, &net, parse_three());
+    has_ended(rt, alloc, &net, &case);
 }
 
 #[test]
@@ -68,8 +79,9 @@ fn a_result_that_is_kept_comes_too_late(rt: HostRuntime) {
 
 /// The run of one message, gathered where the message is out of the slot of the link between its blocks, and not yet taken.
 pub(crate) fn in_mid_move(rt: &(impl Abort + Threads + Sync), alloc: Global) -> Net<Steps> {
+    let case = one_message(rt);
     for turns in 0..100 {
-        let net = network(rt, alloc, one_message().text);
+        let net = network_of(rt, alloc, &case);
         let net = turned(rt, alloc, net, Way::Singly(turns));
         assert!(rt; net.plan().link_count() == 2);
         if let Phase::Opened(_) = net.phase(0) {
@@ -85,7 +97,7 @@ fn message_arrives_once(rt: &(impl Abort + Threads + Sync), alloc: Global, way: 
     let kept = journals(rt, alloc, &net);
     let net = turned(rt, alloc, net, way);
     go_on(rt, alloc, &net, &kept);
-    has_ended(rt, alloc, &net, one_message());
+    has_ended(rt, alloc, &net, &one_message(rt));
 }
 
 #[test]

@@ -1,13 +1,8 @@
-//! Networks that are read from texts.
-ghost use Rattle.std.specs.Prelude.{◌≡◌, true, length, map, count_by};
-ghost use Rattle.flow_lists.specs.Lists.{every};
-ghost use Rattle.flow_link.specs.Planned.{layout_of};
-ghost use Rattle.flow_link.specs.Posted.{ends_by_number, input_of};
+//! Networks that are drawn in a line, and cases of tables.
 
-use flow_link::{Plan, Posted};
+use flow_drawn::inputs;
 use flow_net::{Net, Settled};
-use flow_run::split_input;
-use flow_text::{read_plan, read_records};
+use flow_trial::{Case, read_case};
 use flow_value::Steps;
 use std::alloc::Global;
 use std::process::Abort;
@@ -15,34 +10,42 @@ use std::process::Abort;
 /// More events than any of these networks has.
 const ENOUGH: u64 = 1_000_000;
 
-/// The network of a text, to which the records behind it are posted.
-pub(crate) fn network(rt: &impl Abort, alloc: Global, text: &str) -> Net<Steps> {
-    let (network, records) = split_input(text.as_bytes());
-    let plan = planned(rt, alloc, network);
-    let posted = posted(rt, alloc, records, &plan);
-    let Ok(net) = Net::new(alloc, plan, posted) else {
+/// The network that is drawn so, to which these records are posted.
+pub(crate) fn network(rt: &impl Abort, alloc: Global, drawn: &str, records: &str) -> Net<Steps> {
+    let Some(inputs) = inputs(alloc, drawn, records) else {
+        panic!(rt; "no network");
+    };
+    let Ok(net) = inputs.start(alloc) else {
         panic!(rt; "out of memory");
     };
     net
 }
 
-/// The plan of a network's text.
-pub(crate) fn planned(rt: &impl Abort, alloc: Global, text: &[u8]) -> Plan<Steps> {
-    let Ok(plan) = read_plan(alloc, text) else {
-        panic!(rt; "no plan");
+/// The network of a case, of which nothing has happened.
+pub(crate) fn network_of(rt: &impl Abort, alloc: Global, case: &Case) -> Net<Steps> {
+    let Ok(net) = case.network(alloc) else {
+        panic!(rt; "no network");
     };
-    plan
+    net
 }
 
-/// What records post to the inputs of a plan.
-fn posted(rt: &impl Abort, alloc: Global, records: &[u8], plan: &Plan<Steps>) -> Vec<Posted>
-    ensures one_each { length result.items ≡ count_by (λ block. block.input) (layout_of plan.now).blocks }
-    ensures numbered { every ends_by_number (map input_of result.items) ≡ true }
-{
-    let Ok(posted) = read_records(alloc, records, plan) else {
-        panic!(rt; "no records");
+/// The case that these lines are.
+pub(crate) fn case_of<'a>(rt: &impl Abort, lines: &'a str) -> Case<'a> {
+    let Ok(case) = read_case(lines) else {
+        panic!(rt; "no case");
     };
-    posted
+    case
+}
+
+/// The case of a table that has this name.
+pub(crate) fn named<'a>(rt: &impl Abort, table: &'a str, name: &str) -> Case<'a> {
+    for lines in table.trim().split("\n\n") {
+        let case = case_of(rt, lines);
+        if case.name == name {
+            return case;
+        }
+    }
+    panic!(rt; "no case")
 }
 
 /// Settles a network by single events, and counts them.

@@ -1,67 +1,60 @@
-//! A hundred numbers go through a block that works on four at a time.
+//! Numbers go through a block that works on four at a time.
 
-use crate::ends::report;
 use crate::networks::network;
 use crate::turned::{Way, turned};
-use flow_trial::has_lines;
+use flow_front::{record_of, state_of};
+use flow_net::{Net, State};
+use flow_value::{Steps, Value};
 use std::alloc::Global;
 use std::fmt::Write;
 use std::process::Abort;
 use std::thread::Threads;
 
 /// A transform that works on four messages at a time.
-pub(crate) const FOUR_LANES: &str = r#"format = 1
-block = [
-    {name = "in", kind = "buffer", input = true},
-    {name = "t", kind = "transform", work = ["int", "add 1"], lanes = 4},
-    {name = "out", kind = "action", work = []},
-]
-link = [
-    {from = "in", to = "t", propagate = true},
-    {from = "t", to = "out", propagate = true},
-]
-%%
-"#;
+pub(crate) const FOUR_LANES: &str =
+    "in* buffer, t transform(int+add 1) lanes 4, out action(), in => t, t => out";
 
-/// The run of a network over the numbers from 1 to this one.
-pub(crate) fn with_numbers(rt: &impl Abort, alloc: Global, network: &str, last: u32) -> String {
-    let mut text = String::new(alloc);
-    assert!(rt; text.push_str(network).is_ok());
+/// The network that is drawn so, to which the numbers from 1 to this one are posted.
+pub(crate) fn with_numbers(rt: &impl Abort, alloc: Global, drawn: &str, last: u32) -> Net<Steps> {
+    let mut records = String::new(alloc);
     for number in 1..=last {
-        assert!(rt; writeln!(text, "in,{number}").is_ok());
+        assert!(rt; write!(records, "in,{number} ").is_ok());
     }
-    text
+    network(rt, alloc, drawn, records.as_str())
 }
 
-/// What it comes to: each number plus one, in order.
-fn one_more_each(rt: &impl Abort, alloc: Global) -> String {
-    let mut line = String::new(alloc);
-    assert!(rt;
-        line.push_str("block in done ; block t done ; block out done ; record [2")
-            .is_ok()
-    );
-    for number in 3..102u32 {
-        assert!(rt; write!(line, ",{number}").is_ok());
+/// Asserts that the action `out` has recorded the numbers from the first to the last, in their order.
+pub(crate) fn has_recorded(rt: &impl Abort, net: &Net<Steps>, first: i64, last: i64) {
+    let Some(recorded) = record_of(net, "out") else {
+        panic!(rt; "no record");
+    };
+    let mut due = first;
+    for value in recorded {
+        assert!(rt; *value == Value::Int(due));
+        due = due.saturating_add(1);
     }
-    assert!(rt; line.push_str("]").is_ok());
-    line
+    assert!(rt; due.checked_sub(1) == Some(last));
 }
 
-/// Asserts that the run of these numbers comes to this line.
-fn comes_to(rt: &(impl Abort + Threads + Sync), alloc: Global, text: &str, line: &str, way: Way) {
-    let net = network(rt, alloc, text);
-    let net = turned(rt, alloc, net, way);
-    let report = report(rt, alloc, &net);
+/// Asserts that these blocks are done.
+pub(crate) fn are_done(rt: &impl Abort, net: &Net<Steps>, names: &[&str]) {
+    for name in names {
+        assert!(rt; state_of(net, name) == Some(State::Done));
+    }
+}
+
+/// Asserts that a hundred numbers come out in their order, each plus one, where the tasks are turned so.
+fn keeps_order(rt: &(impl Abort + Threads + Sync), alloc: Global, way: Way) {
+    let net = turned(rt, alloc, with_numbers(rt, alloc, FOUR_LANES, 100), way);
     assert!(rt; net.is_quiet());
-    assert!(rt; has_lines(report.as_slice(), line));
+    has_recorded(rt, &net, 2, 101);
+    are_done(rt, &net, &["in", "t", "out"]);
 }
 
 #[test]
 fn lanes_keep_order(rt: HostRuntime) {
     let alloc = rt.alloc();
-    let text = with_numbers(&rt, alloc, FOUR_LANES, 100);
-    let line = one_more_each(&rt, alloc);
-    comes_to(&rt, alloc, text.as_str(), line.as_str(), Way::Alone(64));
-    comes_to(&rt, alloc, text.as_str(), line.as_str(), Way::Alone(1));
-    comes_to(&rt, alloc, text.as_str(), line.as_str(), Way::Both(64));
+    keeps_order(&rt, alloc, Way::Alone(64));
+    keeps_order(&rt, alloc, Way::Alone(1));
+    keeps_order(&rt, alloc, Way::Both(64));
 }

@@ -1,13 +1,11 @@
 //! Two workers do jobs at one time: a gate lets the first job of a block go on only once the second has begun, and that one only once the
 //! first result is recorded.
 use crate::crew::turned_by_crew;
-use crate::networks::network;
-use crate::numbers::{FOUR_LANES, with_numbers};
+use crate::numbers::{FOUR_LANES, has_recorded, with_numbers};
 use flow_board::Gate;
 use flow_crew::run_workers;
-use flow_front::record_of;
 use flow_net::{Net, Settled};
-use flow_value::{Steps, Value};
+use flow_value::Steps;
 use std::alloc::Global;
 use std::process::Abort;
 use std::sync::Wait;
@@ -88,21 +86,7 @@ impl Gate for Meeting {
 
 /// The network of four lanes, to which 1 to 100 are posted.
 fn started(rt: &impl Abort, alloc: Global) -> Net<Steps> {
-    let text = with_numbers(rt, alloc, FOUR_LANES, POSTED);
-    network(rt, alloc, text.as_str())
-}
-
-/// Asserts that the action has recorded 2 to 101.
-fn has_recorded(rt: &impl Abort, net: &Net<Steps>) {
-    let Some(record) = record_of(net, "out") else {
-        panic!(rt; "no action");
-    };
-    let mut next = 2i64;
-    for value in record {
-        assert!(rt; *value == Value::Int(next));
-        next = next.saturating_add(1);
-    }
-    assert!(rt; next == 102);
+    with_numbers(rt, alloc, FOUR_LANES, POSTED)
 }
 
 #[test]
@@ -115,7 +99,7 @@ fn two_workers_run_jobs_at_one_time(rt: HostRuntime) {
     };
     assert!(rt; gate.has_met());
     assert!(rt; settled == Settled::Quiet);
-    has_recorded(&rt, &net);
+    has_recorded(&rt, &net, 2, 101);
 }
 
 #[test]
@@ -126,5 +110,5 @@ fn a_round_runs_jobs_at_one_time(rt: HostRuntime) {
     let (mut net, _) = turned_by_crew(&rt, alloc, net, 2, &gate, 1_000_000);
     assert!(rt; gate.has_met());
     assert!(rt; matches!(net.settle(alloc, u64::MAX), Ok(Settled::Quiet)));
-    has_recorded(&rt, &net);
+    has_recorded(&rt, &net, 2, 101);
 }

@@ -1,12 +1,12 @@
 //! A network whose work is long is run at its pace: by one thread at first, and then by a crew.
 ghost use Rattle.std.specs.Prelude.{◌≤◌, ◌<◌};
 
-use crate::networks::{network, settle_singly};
-use crate::numbers::with_numbers;
-use flow_front::{record_of, state_of};
-use flow_net::{Net, Settled, State};
+use crate::networks::settle_singly;
+use crate::numbers::{are_done, has_recorded, with_numbers};
+use flow_front::record_of;
+use flow_net::{Net, Settled};
 use flow_pace::run_paced;
-use flow_value::{Steps, Value};
+use flow_value::Steps;
 use std::alloc::Global;
 use std::process::Abort;
 use std::sync::Wait;
@@ -17,25 +17,12 @@ const COUNT: u32 = 100;
 
 /// A broadcast of numbers to two actions. One copies each number a hundred thousand times, in two lanes, and records nothing; the other
 /// records them.
-const COPYING: &str = r#"format = 1
-block = [
-    {name = "in", kind = "buffer", input = true},
-    {name = "both", kind = "broadcast"},
-    {name = "slow", kind = "action", work = ["int", "repeat 1000", "repeat 10", "repeat 10", "repeat 0"], lanes = 2},
-    {name = "out", kind = "action", work = ["int"]},
-]
-link = [
-    {from = "in", to = "both", propagate = true},
-    {from = "both", to = "slow", propagate = true},
-    {from = "both", to = "out", propagate = true},
-]
-%%
-"#;
+const COPYING: &str =
+    "in* buffer, both broadcast, slow action(int+repeat 1000+repeat 10+repeat 10+repeat 0) lanes 2, out action(int), in => both, both => slow, both => out";
 
 /// That network, of which nothing has happened.
 fn started(rt: &impl Abort, alloc: Global) -> Net<Steps> {
-    let text = with_numbers(rt, alloc, COPYING, COUNT);
-    network(rt, alloc, text.as_str())
+    with_numbers(rt, alloc, COPYING, COUNT)
 }
 
 /// The network, run by so many workers for at most so many events, and how far it came.
@@ -53,30 +40,15 @@ fn run<R: Abort + Threads + Wait + Sync>(
     ran
 }
 
-/// Asserts that all numbers were recorded in their order, and that every block is done.
-fn has_recorded(rt: &impl Abort, net: &Net<Steps>) {
-    let Some(recorded) = record_of(net, "out") else {
-        panic!(rt; "no record");
-    };
-    let mut due = 1i64;
-    for value in recorded {
-        assert!(rt; *value == Value::Int(due));
-        due = due.saturating_add(1);
-    }
-    assert!(rt; due == 101);
-    assert!(rt; matches!(record_of(net, "slow"), Some([])));
-    for name in ["in", "both", "slow", "out"] {
-        assert!(rt; state_of(net, name) == Some(State::Done));
-    }
-}
-
 /// Asserts that so many workers do all events within as many as there are, and are stopped where one less may be done.
 fn ends_within<R: Abort + Threads + Wait + Sync>(rt: &R, alloc: Global, workers: usize, all: u64)
     requires workers { (0 < workers) × (workers ≤ 64) }
 {
     let (net, settled) = run(rt, alloc, workers, all);
     assert!(rt; settled == Settled::Quiet);
-    has_recorded(rt, &net);
+    has_recorded(rt, &net, 1, 100);
+    assert!(rt; matches!(record_of(&net, "slow"), Some([])));
+    are_done(rt, &net, &["in", "both", "slow", "out"]);
     let (_, settled) = run(rt, alloc, workers, all.saturating_sub(1));
     assert!(rt; settled == Settled::Stopped);
 }

@@ -4,18 +4,16 @@ ghost use Rattle.flow_board.specs.At.{sending_board};
 ghost use Rattle.flow_board.specs.Parts.{AllEntriesOf, AllTasksOf, entry_board};
 
 use crate::ends::has_ended;
-use crate::networks::planned;
+use crate::networks::{named, network};
 use crate::rounds::turn_each;
-use crate::rows::two_joins;
 use flow_board::{
     Board, Entry, EntryAt, Parts, Scattered, Task, boards_are_shared, entries_cross, gather,
     scatter,
 };
-use flow_front::Inputs;
 use flow_link::Ending;
 use flow_net::Net;
 use flow_poll::{Delivery, SendAsync, TurnState};
-use flow_run::split_input;
+use flow_trial::{Case, SHARED};
 use flow_value::{Steps, Text, Value};
 use futures::Future;
 use futures::task::{Doorbell, Poll, Solo};
@@ -27,8 +25,8 @@ use std::thread::{Threads, join, yield_now};
 /// What is sent to the first input while tasks are turned.
 const SENT: &[&str] = &["a1", "a2", "a3", "a4", "a5"];
 
-/// What is posted to the second input before.
-const POSTED: &[&str] = &["b1", "b2", "b3", "b4", "b5"];
+/// The first input stays open, and these are posted to the second before.
+const POSTED: &str = "a? b,b1 b,b2 b,b3 b,b4 b,b5";
 
 /// How often a thread asks whether there is something to do before it gives up. It yields where there is nothing.
 const ENOUGH: u32 = 10_000_000;
@@ -44,17 +42,9 @@ fn value(rt: &impl Abort, alloc: Global, text: &str) -> Value {
     Value::Text(text)
 }
 
-/// The inputs of two joins, of which nothing is posted to the first, which stays open.
-fn inputs(rt: &impl Abort, alloc: Global) -> Inputs<Steps> {
-    let (network, _) = split_input(two_joins().text.as_bytes());
-    let Ok(mut inputs) = Inputs::of(alloc, planned(rt, alloc, network)) else {
-        panic!(rt; "out of memory");
-    };
-    assert!(rt; inputs.end("a", Ending::Open).is_ok());
-    for text in POSTED {
-        assert!(rt; inputs.post("b", value(rt, alloc, text)).is_ok());
-    }
-    inputs
+/// The run of two joins.
+fn two_joins(rt: &impl Abort) -> Case<'static> {
+    named(rt, SHARED, "two joins share sources")
 }
 
 /// What a future gives, which is polled again and again; between two polls the thread yields.
@@ -237,10 +227,8 @@ fn has_posted(rt: &impl Abort, net: &Net<Steps>) {
 #[test]
 fn values_are_sent_while_tasks_are_turned(rt: HostRuntime) {
     let alloc = rt.alloc();
-    let Ok(net) = inputs(&rt, alloc).start(alloc) else {
-        panic!(rt; "out of memory");
-    };
-    let net = sent_through(&rt, alloc, net);
+    let case = two_joins(&rt);
+    let net = sent_through(&rt, alloc, network(&rt, alloc, case.drawn, POSTED));
     has_posted(&rt, &net);
-    has_ended(&rt, alloc, &net, two_joins());
+    has_ended(&rt, alloc, &net, &case);
 }

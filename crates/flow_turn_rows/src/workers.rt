@@ -2,7 +2,7 @@
 ghost use Rattle.std.specs.Prelude.{◌≤◌, ◌<◌};
 
 use crate::crew::turned_by_crew;
-use crate::networks::{network, settle_singly};
+use crate::networks::settle_singly;
 use crate::numbers::with_numbers;
 use flow_board::OpenGate;
 use flow_front::record_of;
@@ -17,25 +17,12 @@ use std::thread::Threads;
 const POSTED: u32 = 40;
 
 /// Two transforms in a chain, the second of which has room for two messages.
-const CHAIN: &str = r#"format = 1
-block = [
-    {name = "in", kind = "buffer", input = true},
-    {name = "double", kind = "transform", work = ["int", "mul 2"]},
-    {name = "more", kind = "transform", work = ["add 1"], capacity = 2},
-    {name = "out", kind = "action", work = []},
-]
-link = [
-    {from = "in", to = "double", propagate = true},
-    {from = "double", to = "more", propagate = true},
-    {from = "more", to = "out", propagate = true},
-]
-%%
-"#;
+const CHAIN: &str =
+    "in* buffer, double transform(int+mul 2), more transform(add 1) capacity 2, out action(), in => double, double => more, more => out";
 
 /// The network of the chain, to which 1 to 40 are posted.
 fn started(rt: &impl Abort, alloc: Global) -> Net<Steps> {
-    let text = with_numbers(rt, alloc, CHAIN, POSTED);
-    network(rt, alloc, text.as_str())
+    with_numbers(rt, alloc, CHAIN, POSTED)
 }
 
 /// The network, turned by so many workers in rounds of at most so many events, and how many events that took.
