@@ -40,22 +40,22 @@ fn of_first(alloc: Global, net: &Net<Steps>) -> Result<Vec<Asked>, Fail> {
 #[test]
 fn one_source_may_be_done_before_the_other(rt: HostRuntime) -> Result<(), Fail> {
     let alloc = rt.alloc();
-    let case = read_case(TWO_SOURCES)?;
-    let mut net = case.network(alloc)?;
+    let case = read_case(TWO_SOURCES).ok_or("no case")?;
+    let mut net = case.network(alloc).ok_or("no network")?;
     let choices = of_first(alloc, &net)?;
     assert!(rt; !do_first(alloc, &mut net, choices.as_slice())?);
     let waits = r#"block l done ; held 0 ["1","2"]"#;
     assert!(rt; came_to(alloc, &net, &[waits])?.is_some());
     assert!(rt; net.settle(alloc, 10_000) == Ok(Settled::Quiet));
-    assert!(rt; case.is_met(alloc, &net)?);
+    assert!(rt; case.is_met(alloc, &net));
     Ok(())
 }
 
 #[test]
 fn groups_are_the_same_with_three_workers(rt: HostRuntime) -> Result<(), Fail> {
-    let case = read_case(TWO_SOURCES)?;
-    let mut net = case.network(rt.alloc())?;
+    let case = read_case(TWO_SOURCES).ok_or("no case")?;
+    let mut net = case.network(rt.alloc()).ok_or("no network")?;
     assert!(rt; net.settle_with(&rt, rt.alloc(), 3, 10_000) == Ok(Settled::Quiet));
-    assert!(rt; case.is_met(rt.alloc(), &net)?);
+    assert!(rt; case.is_met(rt.alloc(), &net));
     Ok(())
 }

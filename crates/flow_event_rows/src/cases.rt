@@ -10,14 +10,14 @@ use std::test::Fail;
 
 /// Whether the draft, settled at once, comes to what is due.
 fn comes_to_its_end(alloc: Global, case: Case) -> Result<bool, Fail> {
-    let mut net = case.network(alloc)?;
-    Ok(settles(alloc, &mut net) && case.is_met(alloc, &net)?)
+    let mut net = case.network(alloc).ok_or("no network")?;
+    Ok(settles(alloc, &mut net) && case.is_met(alloc, &net))
 }
 
 /// Whether the draft comes to what is due by the schedule with this seed.
 fn wanders(alloc: Global, case: Case, seed: u64) -> Result<bool, Fail> {
-    let mut net = case.network(alloc)?;
-    Ok(wander(alloc, &mut net, seed)? && case.is_met(alloc, &net)?)
+    let mut net = case.network(alloc).ok_or("no network")?;
+    Ok(wander(alloc, &mut net, seed)? && case.is_met(alloc, &net))
 }
 
 /// Whether the draft comes to what is due with links first or blocks first, forwards or backwards.
@@ -27,9 +27,9 @@ fn is_met_in_order(
     links_first: bool,
     backwards: bool,
 ) -> Result<bool, Fail> {
-    let mut net = case.network(alloc)?;
+    let mut net = case.network(alloc).ok_or("no network")?;
     let choices = in_order(alloc, net.plan(), links_first, backwards)?;
-    Ok(do_first(alloc, &mut net, choices.as_slice())? && case.is_met(alloc, &net)?)
+    Ok(do_first(alloc, &mut net, choices.as_slice())? && case.is_met(alloc, &net))
 }
 
 /// How many schedules each network is driven by.
@@ -53,7 +53,7 @@ pub(crate) fn check_cases(
     table: &str,
 ) -> Result<(), Fail> {
     for lines in table.trim().split("\n\n") {
-        let case = read_case(lines)?;
+        let case = read_case(lines).ok_or("no case")?;
         check(rt, case.name, comes_to_its_end(alloc, case)?);
         check_orders(rt, alloc, case)?;
     }

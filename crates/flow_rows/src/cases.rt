@@ -34,7 +34,7 @@ fn check_each(
     requires { (1 ≤ workers) × (workers ≤ 64) }
 {
     for lines in table.trim().split("\n\n") {
-        let case = read_case(lines)?;
+        let case = read_case(lines).ok_or("no case")?;
         check(rt, case.name, is_met(rt, alloc, &case, workers)?);
     }
     Ok(())

@@ -12,7 +12,7 @@ use std::thread::Threads;
 /// Asserts that a network is quiet, and has come to what is due of this case.
 pub(crate) fn has_ended(rt: &impl Abort, alloc: Global, net: &Net<Steps>, case: &Case) {
     let name = case.name;
-    if !net.is_quiet() || !matches!(case.is_met(alloc, net), Ok(true)) {
+    if !net.is_quiet() || !case.is_met(alloc, net) {
         panic!(rt; "{name}");
     }
 }

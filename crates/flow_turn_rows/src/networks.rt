@@ -23,7 +23,7 @@ pub(crate) fn network(rt: &impl Abort, alloc: Global, drawn: &str, records: &str
 
 /// The network of a case, of which nothing has happened.
 pub(crate) fn network_of(rt: &impl Abort, alloc: Global, case: &Case) -> Net<Steps> {
-    let Ok(net) = case.network(alloc) else {
+    let Some(net) = case.network(alloc) else {
         panic!(rt; "no network");
     };
     net
@@ -31,7 +31,7 @@ pub(crate) fn network_of(rt: &impl Abort, alloc: Global, case: &Case) -> Net<Ste
 
 /// The case that these lines are.
 pub(crate) fn case_of<'a>(rt: &impl Abort, lines: &'a str) -> Case<'a> {
-    let Ok(case) = read_case(lines) else {
+    let Some(case) = read_case(lines) else {
         panic!(rt; "no case");
     };
     case
