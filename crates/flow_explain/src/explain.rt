@@ -1,5 +1,5 @@
 //! All that is to be said of a network's text.
-ghost use Rattle.std.specs.Prelude.{◌≡◌, IfOk};
+ghost use Rattle.std.specs.Prelude.{◌≡◌, ◌<◌, length, IfOk, IfSome};
 ghost use Rattle.flow_explain.specs.Answers.{IsAnswerTo};
 ghost use Rattle.flow_fault_text.specs.declared.fault.TextFault.{TextFault};
 
@@ -69,7 +69,9 @@ fn flaws_of(alloc: Global, text: &[u8], fault: TextFault) -> Result<(Flaw, Vec<F
 }
 
 // The first of these flaws that has this fault.
-fn first_with(flaws: &[Flaw], fault: TextFault) -> Option<usize> {
+fn first_with(flaws: &[Flaw], fault: TextFault) -> Option<usize>
+    ensures { IfSome result (λ at. at < length flaws.now) }
+{
     for (at, flaw) in flaws.iter().enumerate() {
         if flaw.fault == fault {
             return Some(at);
