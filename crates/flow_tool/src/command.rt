@@ -65,156 +65,161 @@ const REPORT: Argument = argument!(
     "The file with the report of a run, or - for standard input"
 );
 
-const ENTRIES: &[Entry] = &[
-    Entry {
-        name: "check",
-        about: "Tells what is wrong with a network and its records, and where",
-        below: "\
+const CHECK: Entry = Entry {
+    name: "check",
+    about: "Tells what is wrong with a network and its records, and where",
+    below: "\
 Of a network that is accepted it tells what surely leads to status 1 or never does what was meant. The status is 1 where the
 network or a record is refused.
 
 example:
   bin/flow check network.toml records.csv",
-        arguments: &[
-            NETWORK,
-            argument!(
-                "records",
-                Form::Optional("RECORDS"),
-                "The file with records, or - for standard input"
-            ),
-            argument!(
-                "short",
-                Form::Flag(&[]),
-                "Prints a line for each thing that it tells"
-            ),
-        ],
-    },
-    Entry {
-        name: "draw",
-        about: "Draws a network, and what became of it",
-        below: "\
+    arguments: &[
+        NETWORK,
+        argument!(
+            "records",
+            Form::Optional("RECORDS"),
+            "The file with records, or - for standard input"
+        ),
+        argument!(
+            "short",
+            Form::Flag(&[]),
+            "Prints a line for each thing that it tells"
+        ),
+    ],
+};
+
+const DRAW: Entry = Entry {
+    name: "draw",
+    about: "Draws a network, and what became of it",
+    below: "\
 With a report it tells what crossed each link, what is held and left, and how each block ended.
 
 example:
   bin/flow draw network.toml run.report
   bin/flow draw --dot network.toml | dot -Tsvg > network.svg",
-        arguments: &[
-            NETWORK,
-            argument!(
-                "report",
-                Form::Optional("REPORT"),
-                "The file with the report of a run, or - for standard input"
-            ),
-            argument!("dot", Form::Flag(&[]), "Draws for Graphviz"),
-        ],
-    },
-    Entry {
-        name: "why",
-        about: "Tells why a run ended with its status",
-        below: "\
+    arguments: &[
+        NETWORK,
+        argument!(
+            "report",
+            Form::Optional("REPORT"),
+            "The file with the report of a run, or - for standard input"
+        ),
+        argument!("dot", Form::Flag(&[]), "Draws for Graphviz"),
+    ],
+};
+
+const WHY: Entry = Entry {
+    name: "why",
+    about: "Tells why a run ended with its status",
+    below: "\
 The status is that of the run.
 
 example:
   bin/flow why network.toml run.report",
-        arguments: &[NETWORK, REPORT],
-    },
-    Entry {
-        name: "results",
-        about: "Prints what actions recorded",
-        below: "\
+    arguments: &[NETWORK, REPORT],
+};
+
+const RESULTS: Entry = Entry {
+    name: "results",
+    about: "Prints what actions recorded",
+    below: "\
 example:
   bin/flow results run.report ledger > ledger.csv
   bin/flow_run network.toml 1 < records.csv | bin/flow results --jsonl -",
-        arguments: &[
-            REPORT,
-            argument!(
-                "blocks",
-                Form::Words("BLOCK"),
-                "The actions whose results are printed, all where none is named"
-            ),
-            argument!(
-                "csv",
-                Form::Flag(&[]),
-                "A row for each result, which is the default"
-            ),
-            argument!(
-                "jsonl",
-                Form::Flag(&["csv"]),
-                "A JSON object for each result"
-            ),
-            argument!("json", Form::Flag(&["csv", "jsonl"]), "One JSON object"),
-        ],
-    },
-    Entry {
-        name: "trace",
-        about: "Tells where a value was: the blocks that took it and the links that it crossed",
-        below: "\
+    arguments: &[
+        REPORT,
+        argument!(
+            "blocks",
+            Form::Words("BLOCK"),
+            "The actions whose results are printed, all where none is named"
+        ),
+        argument!(
+            "csv",
+            Form::Flag(&[]),
+            "A row for each result, which is the default"
+        ),
+        argument!(
+            "jsonl",
+            Form::Flag(&["csv"]),
+            "A JSON object for each result"
+        ),
+        argument!("json", Form::Flag(&["csv", "jsonl"]), "One JSON object"),
+    ],
+};
+
+const TRACE: Entry = Entry {
+    name: "trace",
+    about: "Tells where a value was: the blocks that took it and the links that it crossed",
+    below: "\
 VALUE is as the report prints it, or a text without its quotes. The status is 1 where it is nowhere.
 
 example:
   bin/flow trace run.report seven",
-        arguments: &[
-            REPORT,
-            argument!("value", Form::Needed("VALUE"), "The value"),
-        ],
-    },
-    Entry {
-        name: "sift",
-        about: "Sets aside the records of standard input that fault",
-        below: "\
+    arguments: &[
+        REPORT,
+        argument!("value", Form::Needed("VALUE"), "The value"),
+    ],
+};
+
+const SIFT: Entry = Entry {
+    name: "sift",
+    about: "Sets aside the records of standard input that fault",
+    below: "\
 A record faults where it can't be read, or where a block faults when the record is run alone. The status is 1 where one did.
 
 example:
   bin/flow sift network.toml < records.csv > good.csv 2> bad.txt",
-        arguments: &[NETWORK],
-    },
-    Entry {
-        name: "split",
-        about: "Cuts records into parts of about the same size",
-        below: "\
+    arguments: &[NETWORK],
+};
+
+const SPLIT: Entry = Entry {
+    name: "split",
+    about: "Cuts records into parts of about the same size",
+    below: "\
 The parts are RECORDS.1, RECORDS.2 and so on, with as many digits as PARTS has; their names are printed. A cut is never in a
 quoted line end. With --by-key each record is `key,input,value`, and the parts have `input,value`.
 
 example:
   bin/flow split 8 records.csv",
-        arguments: &[
-            argument!("parts", Form::Parts("PARTS"), "How many parts, 1 to 1000"),
-            argument!(
-                "records",
-                Form::Needed("RECORDS"),
-                "The file with the records, or - for standard input"
-            ),
-            argument!(
-                "name",
-                Form::Named("NAME"),
-                "Writes NAME.1, NAME.2 and so on"
-            ),
-            argument!(
-                "by-key",
-                Form::Flag(&[]),
-                "Puts records with one key into one part, and takes the key off"
-            ),
-        ],
-    },
-    Entry {
-        name: "merge",
-        about: "Makes the report of the whole of the reports of its parts",
-        below: "\
+    arguments: &[
+        argument!("parts", Form::Parts("PARTS"), "How many parts, 1 to 1000"),
+        argument!(
+            "records",
+            Form::Needed("RECORDS"),
+            "The file with the records, or - for standard input"
+        ),
+        argument!(
+            "name",
+            Form::Named("NAME"),
+            "Writes NAME.1, NAME.2 and so on"
+        ),
+        argument!(
+            "by-key",
+            Form::Flag(&[]),
+            "Puts records with one key into one part, and takes the key off"
+        ),
+    ],
+};
+
+const MERGE: Entry = Entry {
+    name: "merge",
+    about: "Makes the report of the whole of the reports of its parts",
+    below: "\
 Reports are merged of networks of buffers, actions, transforms, transform_manys and joins without a max, where each part has
 status 0. The status is the worst of the parts', or 2 where they can't be merged though each has 0.
 
 example:
   bin/flow merge network.toml records.csv.*.report > whole.report",
-        arguments: &[
-            NETWORK,
-            argument!(
-                "parts",
-                Form::SomeWords("PART"),
-                "The reports of the parts, in the order of the records"
-            ),
-        ],
-    },
-];
+    arguments: &[
+        NETWORK,
+        argument!(
+            "parts",
+            Form::SomeWords("PART"),
+            "The reports of the parts, in the order of the records"
+        ),
+    ],
+};
 
 /// The command line: a command, and its arguments.
 pub fn command_line<'a>(alloc: Global) -> Result<Command<'a>, AllocError> {
@@ -224,27 +229,62 @@ pub fn command_line<'a>(alloc: Global) -> Result<Command<'a>, AllocError> {
         .after_help(STATUSES)
         .disable_help_subcommand(true)
         .subcommand_required(true);
-    for entry in ENTRIES {
+    let entries = [
+        check(),
+        draw(),
+        why(),
+        results(),
+        trace(),
+        sift(),
+        split(),
+        merge(),
+    ];
+    for entry in &entries {
         let command = command(alloc, entry)?;
         line = line.subcommand(command)?;
     }
     Ok(line)
 }
 
-fn command<'a>(alloc: Global, entry: &Entry) -> Result<Command<'a>, AllocError> {
-    let command = Command::new(alloc, entry.name)
-        .about(entry.about)
-        .after_help(entry.below);
-    with_arguments(alloc, command, entry.arguments)
+// Each entry has a function of its own, which is proved with the words of that entry alone.
+
+fn check() -> Entry {
+    CHECK
 }
 
-fn with_arguments<'a>(
-    alloc: Global,
-    command: Command<'a>,
-    arguments: &[Argument],
-) -> Result<Command<'a>, AllocError> {
-    let mut command = command;
-    for argument in arguments {
+fn draw() -> Entry {
+    DRAW
+}
+
+fn why() -> Entry {
+    WHY
+}
+
+fn results() -> Entry {
+    RESULTS
+}
+
+fn trace() -> Entry {
+    TRACE
+}
+
+fn sift() -> Entry {
+    SIFT
+}
+
+fn split() -> Entry {
+    SPLIT
+}
+
+fn merge() -> Entry {
+    MERGE
+}
+
+fn command<'a>(alloc: Global, entry: &Entry) -> Result<Command<'a>, AllocError> {
+    let mut command = Command::new(alloc, entry.name)
+        .about(entry.about)
+        .after_help(entry.below);
+    for argument in entry.arguments {
         let made = made_of(alloc, *argument)?;
         command = command.arg(made)?;
     }
