@@ -29,14 +29,27 @@ fn new_link(alloc: Global) -> Result<(Wire, SourceEnd, TargetEnd), AllocError>
 
 /// Gives each message and takes it, by one thread: how many came in their turn.
 pub(crate) fn by_one_thread(alloc: Global, count: u32) -> Result<u64, AllocError> {
-    let (wire, mut source, mut target) = new_link(alloc)?;
+    let (wire, source, target) = new_link(alloc)?;
+    pass_all(alloc, &wire, source, target, count)
+}
+
+fn pass_all(
+    alloc: Global,
+    wire: &Wire,
+    mut source: SourceEnd,
+    mut target: TargetEnd,
+    count: u32,
+) -> Result<u64, AllocError>
+    requires source { source ≡ record { table = wire.now; side = starts_out fresh } }
+    requires target { target ≡ record { table = wire.now; side = starts_in fresh } }
+{
     let mut in_turn = 0u64;
     for number in 0..count {
         let Some(header) = MessageHeader::new(u64::from(number) + 1) else {
             return Ok(in_turn);
         };
         let parcel = message(alloc, number)?;
-        let Some(taken) = pass(&wire, &mut source, &mut target, header, parcel) else {
+        let Some(taken) = pass(wire, &mut source, &mut target, header, parcel) else {
             return Ok(in_turn);
         };
         if is_message(taken, number) {

@@ -1,6 +1,6 @@
 use Rattle.std.proofs.Common.{◌≡◌, ◌≤◌, false, None}
 use Rattle.flow_link.specs.Views.{SourceStage, TargetStage}
-use Rattle.examples.proofs.bench.link.by_one_thread.Given as goal
+use Rattle.examples.proofs.bench.link.pass_all.Given as goal
 
 abbrev pub invariant-loop-number : goal.invariant-loop-number
 invariant-loop-number l =
