@@ -1,4 +1,5 @@
 -- What becomes of the inputs and the exits of a network when the ends of its links look.
+use Rattle.std.proofs.Math.Seq.{map-set_same}
 use Rattle.std.proofs.Common.{◌≡◌, ℕ, zero, suc, List, get_or, Some, Result, refl, sym, ap, ◌∙◌, subst}
 use Rattle.std.specs.Coded.{codes}
 use Rattle.flow_value.specs.declared.value.Value.{Value}
@@ -15,9 +16,9 @@ use Rattle.flow_block.specs.Planned.{exit_place, input_place}
 use Rattle.flow_core.specs.Events.{input_after, source_sees, target_sees}
 use Rattle.flow_core.specs.InOrder.{all_looked, looked_at}
 use Rattle.flow_core.specs.Inputs.{input_of}
-use Rattle.flow_core.specs.State.{NetState, input_at, line_at}
+use Rattle.flow_core.specs.State.{NetState, callers_in, input_at, line_at}
 use Rattle.flow_core.proofs.InputsChange.{sight_apart}
-use Rattle.flow_exit.specs.Exit.{ExitCall, ExitState, exit_after, fresh_exit}
+use Rattle.flow_exit.specs.Exit.{caller_of, fresh_exit}
 use Rattle.flow_input.specs.Input.{InputCall, InputState, after_input, no_input}
 use Rattle.flow_input.specs.InputKeeps.{InputLaw, PostedStays}
 use Rattle.flow_input.specs.Sends.{sends_of}
@@ -60,31 +61,25 @@ module _ {W : Type 0} (layout : Layout W) (meaning : ℕ → Value → Result (L
       looks_further InputLooks (input_of net q) (input_of mid q) (input_of (looked_at layout meaning n mid) q)
       (input_looked n net q) (one_link n mid q)
 
-  -- at an exit what was received stays
-  abbrev pub received_at : NetState → ℕ → List Value
-  received_at net k = (get_or net.exits k fresh_exit).received
+  -- what was received at exits, and asked for, stays
+  source_stays : (l : ℕ) (phase : Phase) (source : LinkSource) (net : NetState)
+      → callers_in (source_sees layout meaning l phase source net) ≡ callers_in net
+  source_stays l phase (Block s) net = refl
+  source_stays l phase (Input b) net = refl
 
-  source_apart : (l : ℕ) (phase : Phase) (source : LinkSource) (net : NetState) → (source_sees layout meaning l phase source net).exits ≡ net.exits
-  source_apart l phase (Block s) net = refl
-  source_apart l phase (Input b) net = refl
+  target_stays : (l : ℕ) (phase : Phase) (target : LinkTarget) (net : NetState)
+      → callers_in (target_sees layout meaning l phase target net) ≡ callers_in net
+  target_stays l phase (Port t p) net = refl
+  target_stays l phase Exit net = map-set_same caller_of net.exits (exit_place layout l) _ fresh_exit refl
 
-  target_stays : (l : ℕ) (phase : Phase) (target : LinkTarget) (net : NetState) (k : ℕ)
-      → received_at (target_sees layout meaning l phase target net) k ≡ received_at net k
-  target_stays l phase (Port t p) net k = refl
-  target_stays l phase Exit net k =
-      element_set (λ i exit. exit.received ≡ received_at net i) net.exits (exit_place layout l) k
-      (exit_after (Some (ExitCall.look phase)) (get_or net.exits (exit_place layout l) fresh_exit)) fresh_exit
-      (λ place. ap (received_at net) (sym place)) refl
-
-  pub received_looked : (n : ℕ) (net : NetState) (k : ℕ) → received_at (all_looked layout meaning n net) k ≡ received_at net k
-  received_looked zero net k = refl
-  received_looked (suc n) net k =
+  pub callers_looked : (n : ℕ) (net : NetState) → callers_in (all_looked layout meaning n net) ≡ callers_in net
+  callers_looked zero net = refl
+  callers_looked (suc n) net =
       let before = all_looked layout meaning n net in
       let phase = (line_at before n).phase in
-      let target = (link_in layout.links n).target in
-      ap (λ (exits : List ExitState). (get_or exits k fresh_exit).received)
-      (source_apart n phase (link_in layout.links n).source (target_sees layout meaning n phase target before))
-      ∙ target_stays n phase target before k ∙ received_looked n net k
+      let link = link_in layout.links n in
+      source_stays n phase link.source (target_sees layout meaning n phase link.target before)
+      ∙ target_stays n phase link.target before ∙ callers_looked n net
 
 -- What looks leave of an input
 

@@ -1,5 +1,8 @@
 -- Whatever happens in a network, the journals of its blocks go on.
-use Rattle.std.proofs.Common.{◌≡◌, ℕ, zero, suc, Bool, true, false, List, [], get_or, Option, Some, None, option_map, Result, sym, ap, ◌∙◌, subst}
+use Rattle.std.specs.Coded.{codes}
+use Rattle.flow_value.specs.contracts.value.Value as content
+use Rattle.flow_exit.specs.Exit.{CallerState}
+use Rattle.std.proofs.Common.{◌≡◌, ℕ, zero, suc, Bool, true, false, List, [], length, ⊎_elim, get_or, Option, Some, None, option_map, Result, sym, ap, ◌∙◌, subst}
 use Rattle.std.proofs.Math.ListN.{get_or-map}
 use Rattle.std.proofs.Math.Logic.{∥∥₁_elim}
 use Rattle.flow_value.specs.declared.value.Value.{Value}
@@ -22,15 +25,23 @@ use Rattle.flow_block.specs.Planned.{block_makes, in_place, out_place}
 use Rattle.flow_block_law.specs.JobsEnd.{after_job}
 use Rattle.flow_core.specs.Events.{NetEvent, after, after_move, in_call, is_of_source, line_after, moved_by, node_after, source_call, source_look, source_moves, source_sees, target_moves, target_sees, with_line, with_node}
 use Rattle.flow_core.specs.InOrder.{journals_of}
-use Rattle.flow_core.specs.State.{NetState, line_at, no_node, node_at}
+use Rattle.flow_core.specs.State.{NetState, callers_in, line_at, no_node, node_at}
 use Rattle.flow_exec.specs.Works.{works_of}
 use Rattle.flow_net.specs.Happened.{Happened}
 use Rattle.flow_poll.specs.Turns.{Extends}
 use Rattle.flow_poll.proofs.EachGoes.{extends_further, extends_itself}
 use Rattle.flow_task.specs.Begun.{JournalsExtend}
-use Rattle.flow_board.specs.Home.{HasGoneOn}
+use Rattle.flow_core.proofs.SchedulesGoWell.{callers_stay}
+use Rattle.flow_board.specs.Home.{HasComeBack, HasComeHome, TakenHome}
+use Rattle.flow_board.proofs.AllLooked.{callers_looked}
 use Rattle.flow_task.proofs.JournalsGrow.{grows}
 use Rattle.flow_task.proofs.TurnsGrow.{extends_prop}
+
+Callers-set : IsSet (List CallerState)
+Callers-set = Prim.hlevel (codes, content.the_row.coded)
+
+callers_prop : (one other : List CallerState) → IsProp (one ≡ other)
+callers_prop one other = Callers-set one other
 
 -- the journal of this block in one network goes on in another
 abbrev GoesOnAt : ℕ → NetState → NetState → Type 0
@@ -101,12 +112,45 @@ module _ {W : Type 0} (layout : Layout W) (meaning : ℕ → Value → Result (L
       extends_further (node_at old b).journal (node_at mid b).journal (node_at new b).journal (happened_grows n old mid before)
       (subst (GoesOnAt b mid) (sym last.new_is) (event_grows mid last.event))
 
+module _ {W : Type 0} (layout : Layout W) (meaning : ℕ → Value → Result (List Value) ℕ) where
+  -- each move that brings home is an event
+  pub home_happens : (n : ℕ) (old new : NetState) → TakenHome layout meaning n old new → Happened layout meaning n old new
+  home_happens zero old new same = same
+  home_happens (suc n) old new (mid, (before, last)) = (
+    mid,
+    (home_happens n old mid before, record { event = NetEvent.at_link last.link last.next; may = last.may; new_is = last.new_is }),
+  )
+
+  -- whatever happens, nothing is received or asked for at exits
+  pub happened_callers : (n : ℕ) (old new : NetState) → Happened layout meaning n old new → callers_in new ≡ callers_in old
+  happened_callers zero old new same = ap callers_in same
+  happened_callers (suc n) old new (mid, (before, last)) =
+      ap callers_in last.new_is ∙ callers_stay layout meaning last.event mid ∙ happened_callers n old mid before
+
 module _ {W : Type 0} (layout : Layout W) where
-  pub gone_extends : (works : W → Value → Result (List Value) WorkFault) (old new : NetState) → HasGoneOn works layout old new
+  pub home_extends : (works : W → Value → Result (List Value) WorkFault) (old new : NetState) → HasComeHome works layout old new
       → JournalsExtend layout old new
-  gone_extends works old new gone b low =
-      ∥∥₁_elim gone (extends_prop (node_at old b).journal (node_at new b).journal) (λ went.
-      happened_grows layout (works_of works layout) b went.0 old new went.1)
+  home_extends works old new come b low =
+      ∥∥₁_elim come (extends_prop (node_at old b).journal (node_at new b).journal) (λ home.
+      happened_grows layout (works_of works layout) b home.0 old new (home_happens layout (works_of works layout) home.0 old new home.1))
+
+  -- nothing is received or asked for meanwhile
+  pub home_callers : (works : W → Value → Result (List Value) WorkFault) (old new : NetState) → HasComeHome works layout old new
+      → callers_in new ≡ callers_in old
+  home_callers works old new come =
+      ∥∥₁_elim come (callers_prop (callers_in new) (callers_in old)) (λ home.
+      happened_callers layout (works_of works layout) home.0 old new
+      (home_happens layout (works_of works layout) home.0 old new home.1))
+
+  pub back_callers : (works : W → Value → Result (List Value) WorkFault) (old new : NetState) → HasComeBack works layout old new
+      → callers_in new ≡ callers_in old
+  back_callers works old new come =
+      ∥∥₁_elim come (callers_prop (callers_in new) (callers_in old)) (λ back.
+      ⊎_elim (λ same. ap callers_in same)
+      (λ looked. ap callers_in looked.1 ∙ callers_looked layout (works_of works layout) (length layout.links)
+      (record { nodes = back.0.nodes; inputs = back.0.inputs; exits = back.0.exits; lines = looked.0 }))
+      back.1.1
+      ∙ home_callers works old back.0 back.1.0)
 
   -- where the marks are the same, they go on too
   pub same_extends : (old mid new : NetState) → journals_of new ≡ journals_of mid → JournalsExtend layout old mid → JournalsExtend layout old new

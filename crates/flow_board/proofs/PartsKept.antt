@@ -1,6 +1,7 @@
 -- What a gathered network has of its entries and its exits.
 use Rattle.std.proofs.Common.{◌≡◌, ⊎_elim, ℕ, ◌+◌, ◌<◌, ◌≤◌, true, List, [], ◌∷◌, length, take, Result, refl, sym, ap, ◌∙◌, subst, arith}
 use Rattle.std.proofs.Math.Bool.{Bool-set}
+use Rattle.std.proofs.Math.ListN.{get_or, get_or-map}
 use Rattle.std.proofs.Math.Logic.{∥∥₁_elim}
 use Rattle.std.proofs.Math.Nat.{ℕ_set}
 use Rattle.std.proofs.lemmas.List.{length-append, length-take-le}
@@ -25,12 +26,12 @@ use Rattle.flow_block_law.proofs.NodesAreLawful.{nodes_are_lawful}
 use Rattle.flow_core.specs.Inputs.{input_of}
 use Rattle.flow_core.specs.Keeps.{IsRun, NetKeeps}
 use Rattle.flow_core.specs.InOrder.{all_looked}
-use Rattle.flow_core.specs.State.{NetState, ends_of, exit_at, input_at, run_of_net, source_from}
+use Rattle.flow_core.specs.State.{NetState, callers_in, ends_of, exit_at, input_at, run_of_net, source_from}
 use Rattle.flow_core.specs.Statements.{IsReceivedOf}
 use Rattle.flow_core.proofs.KeptIsLawful.{kept_in_order, parts_keep}
 use Rattle.flow_core.proofs.NetworksInOrder.{all_accepted_was_taken, all_received_was_given}
 use Rattle.flow_exec.specs.Works.{works_of}
-use Rattle.flow_exit.specs.Exit.{ExitState}
+use Rattle.flow_exit.specs.Exit.{CallerState, caller_of, fresh_exit}
 use Rattle.flow_input.specs.Input.{InputState}
 use Rattle.flow_input.specs.Sends.{sends_of}
 use Rattle.flow_input.proofs.InputLists.{taken_short}
@@ -50,7 +51,7 @@ use Rattle.flow_task.specs.Parts.{entry_board, entry_link, entry_state, exit_boa
 use Rattle.flow_task.specs.declared.board.Board.{Board}
 use Rattle.flow_task.specs.declared.numbered.Entry.{Entry}
 use Rattle.flow_task.specs.declared.numbered.Exit.{Exit}
-use Rattle.flow_board.proofs.AllLooked.{input_looked, looks_leave, received_looked}
+use Rattle.flow_board.proofs.AllLooked.{callers_looked, input_looked, looks_leave}
 use Rattle.flow_task.proofs.InputPlaces.{input_placed}
 
 Views-set : IsSet SendView
@@ -172,14 +173,20 @@ module _ {W : Type 0} (meaning : W → Value → Result (List Value) WorkFault) 
 
   -- an exit
   module _ {w : _} {e : _} (exit : Exit W w e) (its : exit_board exit ≡ board) (at : ExitIsAt board mid.exits exit) where
+    same_caller : caller_of (exit_at layout net (exit_link exit)) ≡ caller_of (exit_state exit)
+    same_caller =
+        let place = exit_place layout (exit_link exit) in
+        sym (get_or-map caller_of net.exits place fresh_exit)
+        ∙ ap (λ (callers : List CallerState). get_or callers place (caller_of fresh_exit))
+        (ap callers_in looked.1 ∙ callers_looked layout works (length layout.links) start)
+        ∙ get_or-map caller_of mid.exits place fresh_exit ∙ ap caller_of at
+
     same_received : (exit_at layout net (exit_link exit)).received ≡ (exit_state exit).received
-    same_received =
-        ap (λ (state : NetState). (exit_at layout state (exit_link exit)).received) looked.1
-        ∙ received_looked layout works (length layout.links) start (exit_place layout (exit_link exit))
-        ∙ ap (λ (state : ExitState). state.received) at
+    same_received = ap (λ (caller : CallerState). caller.received) same_caller
 
     pub exit_kept : ExitIsKept meaning board net exit
     exit_kept = record {
+      caller = same_caller;
       received = same_received;
       given = λ b from.
           let l = exit_link exit in

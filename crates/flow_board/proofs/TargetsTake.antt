@@ -1,6 +1,6 @@
 -- A target to which a message was given opens it next, and closes then: in a network in order that event may happen, and it changes
 -- the phase of its own link alone.
-use Rattle.std.proofs.Common.{◌≡◌, ℕ, ◌+◌, ◌<◌, Bool, true, false, length, List, set, get_or, Option, Some, None, is_some, Result, refl, sym, ap, ◌∙◌, subst, ◌⊎◌, ⊎_elim}
+use Rattle.std.proofs.Common.{◌≡◌, ℕ, zero, suc, arith, ◌+◌, ◌<◌, Bool, true, false, length, List, set, get_or, Option, Some, None, is_some, Result, refl, sym, ap, ◌∙◌, subst, ◌⊎◌, ⊎_elim}
 use Rattle.std.proofs.lemmas.List.{get_or-set_other}
 use Rattle.std.proofs.Math.Logic.{∥∥₁_elim, ∥∥₁_prop}
 use Rattle.flow_value.specs.declared.value.Value.{Value}
@@ -42,8 +42,7 @@ use Rattle.flow_wire.specs.Ends.{is_crossing}
 use Rattle.flow_net.specs.There.{IsWhyNot}
 use Rattle.flow_net.specs.declared.fault.NetFault.{NetFault}
 use Rattle.flow_net.specs.declared.fault.NetFault.TheVariants.{NotEnabled}
-use Rattle.flow_net.proofs.EventsCount.{happened_on, one_more_event}
-use Rattle.flow_board.specs.Home.{HasGoneOn, next_home}
+use Rattle.flow_board.specs.Home.{HasComeHome, TakenHome, next_home}
 
 -- what a target's stage tells of its next move
 abbrev takes_next : Seen Value → Option Move
@@ -204,19 +203,32 @@ module _ {W : Type 0} (layout : Layout W) (meaning : ℕ → Value → Result (L
   pub others_stay : (net : NetState) → line_at (after layout meaning (NetEvent.at_link l next) net) k ≡ line_at net k
   others_stay net = by_phase (phase_after (line_at net l).phase next) net
 
--- Events and then more events
+-- Moves and then more moves
+
+module _ {W : Type 0} (layout : Layout W) (meaning : ℕ → Value → Result (List Value) ℕ) where
+  home_further : (first more : ℕ) (old mid new : NetState) → TakenHome layout meaning first old mid → TakenHome layout meaning more mid new
+      → TakenHome layout meaning (first + more) old new
+  home_further first zero old mid new before same =
+      let none : first ≡ first + 0 = omega arith in
+      subst (λ (n : ℕ). TakenHome layout meaning n old new) none
+      (subst (λ (net : NetState). TakenHome layout meaning first old net) (sym same) before)
+  home_further first (suc more) old mid new before (last, (then_on, takes)) =
+      let one : suc (first + more) ≡ first + suc more = omega arith in
+      subst (λ (n : ℕ). TakenHome layout meaning n old new) one (last, (home_further first more old mid last before then_on, takes))
 
 module _ {W : Type 0} (works : W → Value → Result (List Value) WorkFault) (layout : Layout W) where
-  pub one_gone : (old new : NetState) (event : NetEvent) → MayHappen layout (works_of works layout) event old
-      → new ≡ after layout (works_of works layout) event old → HasGoneOn works layout old new
-  one_gone old new event may is = ∣ (0 + 1, one_more_event layout (works_of works layout) 0 old old new event refl may is) ∣₁
+  pub one_taken : (old new : NetState) (l : ℕ) (next : Move) → next_home (line_at old l).phase ≡ Some next
+      → MayHappen layout (works_of works layout) (NetEvent.at_link l next) old
+      → new ≡ after layout (works_of works layout) (NetEvent.at_link l next) old → HasComeHome works layout old new
+  one_taken old new l next home may is =
+      ∣ (suc 0, (old, (refl, record { link = l; next = next; is_home = home; may = may; new_is = is }))) ∣₁
 
-  pub none_gone : (old new : NetState) → new ≡ old → HasGoneOn works layout old new
-  none_gone old new same = ∣ (0, same) ∣₁
+  pub none_taken : (old new : NetState) → new ≡ old → HasComeHome works layout old new
+  none_taken old new same = ∣ (0, same) ∣₁
 
-  pub gone_further : (same : Layout W) (old mid new : NetState) → same ≡ layout → HasGoneOn works layout old mid
-      → HasGoneOn works same mid new → HasGoneOn works layout old new
-  gone_further same old mid new is first then_on =
+  pub taken_further : (same : Layout W) (old mid new : NetState) → same ≡ layout → HasComeHome works layout old mid
+      → HasComeHome works same mid new → HasComeHome works layout old new
+  taken_further same old mid new is first then_on =
       ∥∥₁_elim first ∥∥₁_prop (λ before.
-      ∥∥₁_elim (subst (λ (it : Layout W). HasGoneOn works it mid new) is then_on) ∥∥₁_prop (λ more.
-      ∣ (before.0 + more.0, happened_on layout (works_of works layout) before.0 more.0 old mid new before.1 more.1) ∣₁))
+      ∥∥₁_elim (subst (λ (it : Layout W). HasComeHome works it mid new) is then_on) ∥∥₁_prop (λ more.
+      ∣ (before.0 + more.0, home_further layout (works_of works layout) before.0 more.0 old mid new before.1 more.1) ∣₁))

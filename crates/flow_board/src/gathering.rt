@@ -14,7 +14,7 @@ ghost use Rattle.flow_task.specs.Absent.{AllThere};
 ghost use Rattle.flow_task.specs.Begun.{JournalsGoOn, ClosedInputsStay, begun_in};
 ghost use Rattle.flow_task.specs.Exits.{exit_due};
 ghost use Rattle.flow_board.specs.GatherRoom.{IsRoomToGather};
-ghost use Rattle.flow_board.specs.Gathers.{AreBack, EntryIsKept, ExitIsKept, GathersFrom, IsWhyNot};
+ghost use Rattle.flow_board.specs.Gathers.{AreBack, EntryIsKept, ExitIsKept, GathersFrom, IsWhyNot, gather_fault_number};
 ghost use Rattle.flow_task.specs.Inputs.{input_due, links_of_inputs};
 ghost use Rattle.flow_task.specs.Known.{in_known, ins_due, out_known, outs_due};
 ghost use Rattle.flow_task.specs.Orders.{AreInOrder, HasLookedAround};
@@ -34,6 +34,18 @@ pub enum GatherFault {
     Missing(usize),
     /// Memory is out.
     Memory,
+}
+
+impl GatherFault {
+    /// The number by which a report names the fault, and none for out of memory.
+    pub fn number(self) -> Option<u32>
+        ensures { result ≡ gather_fault_number self }
+    {
+        match self {
+            GatherFault::Missing(_) => Some(1),
+            GatherFault::Memory => None,
+        }
+    }
 }
 
 /// Puts the parts of a scattered network together, wherever their turns stopped. They may come in any order. Where one is missing or

@@ -5,7 +5,7 @@ ghost use Rattle.flow_wire.specs.Ends.{is_crossing};
 ghost use Rattle.flow_core.specs.Inputs.{InputsStay};
 ghost use Rattle.flow_core.specs.State.{line_at};
 ghost use Rattle.flow_net.specs.Net.{layout_in, parts_of};
-ghost use Rattle.flow_board.specs.Home.{HasGoneOn, next_home};
+ghost use Rattle.flow_board.specs.Home.{HasComeHome, next_home};
 
 use flow_link::{LinkId, Move, Phase};
 use flow_net::{Event, Net, NetFault};
@@ -18,7 +18,7 @@ pub(crate) fn bring_home<W: Runs>(alloc: Global, net: &mut Net<W>) -> Result<(),
     ensures home { OnOk result ((l : ℕ) → l < length (layout_in net.new).links →
         is_crossing (line_at (parts_of net.new) l).phase ≡ false) }
     ensures inputs_stay { InputsStay (parts_of net.old) (parts_of net.new) }
-    ensures goes_on { HasGoneOn W.meaning (layout_in net.old) (parts_of net.old) (parts_of net.new) }
+    ensures goes_on { HasComeHome W.meaning (layout_in net.old) (parts_of net.old) (parts_of net.new) }
 {
     for id in 0..net.plan().link_count() {
         bring_link_home(alloc, net, id)?;
@@ -33,7 +33,7 @@ fn bring_link_home<W: Runs>(alloc: Global, net: &mut Net<W>, id: LinkId) -> Resu
     ensures home { OnOk result (is_crossing (line_at (parts_of net.new) id).phase ≡ false) }
     ensures others { (l : ℕ) → (l ≡ id → ⊥) → line_at (parts_of net.new) l ≡ line_at (parts_of net.old) l }
     ensures inputs_stay { InputsStay (parts_of net.old) (parts_of net.new) }
-    ensures goes_on { HasGoneOn W.meaning (layout_in net.old) (parts_of net.old) (parts_of net.new) }
+    ensures goes_on { HasComeHome W.meaning (layout_in net.old) (parts_of net.old) (parts_of net.new) }
 {
     match net.phase(id) {
         Phase::Given(_) => {
@@ -67,7 +67,7 @@ fn move_home<W: Runs>(
         Some (line_at (parts_of net.new) id).phase) }
     ensures others { (l : ℕ) → (l ≡ id → ⊥) → line_at (parts_of net.new) l ≡ line_at (parts_of net.old) l }
     ensures inputs_stay { InputsStay (parts_of net.old) (parts_of net.new) }
-    ensures goes_on { HasGoneOn W.meaning (layout_in net.old) (parts_of net.old) (parts_of net.new) }
+    ensures goes_on { HasComeHome W.meaning (layout_in net.old) (parts_of net.old) (parts_of net.new) }
 {
     match net.event(alloc, Event::Link(id, next)) {
         Ok(_) => Ok(()),

@@ -9,9 +9,10 @@ ghost use Rattle.flow_core.specs.State.{line_at};
 ghost use Rattle.flow_net.specs.Net.{layout_in, parts_of, run_of};
 ghost use Rattle.flow_task.specs.Absent.{AllThere};
 ghost use Rattle.flow_task.specs.Begun.{JournalsExtend, begun_in};
+ghost use Rattle.flow_task.specs.Orders.{HasLookedAround};
 ghost use Rattle.flow_task.specs.Parts.{AllEntriesOf, AllExitsOf, AllTasksOf, AllWatchesOf, board_layout, exit_state, marks_in, watched_block};
 ghost use Rattle.flow_board.specs.Gathers.{KnowsTaken};
-ghost use Rattle.flow_board.specs.Home.{HasGoneOn};
+ghost use Rattle.flow_board.specs.Home.{HasComeBack, HasComeHome};
 ghost use Rattle.flow_task.specs.Untouched.{AllUntouched};
 ghost use Rattle.flow_task.specs.Wired.{AllReady, AreWired};
 
@@ -24,8 +25,8 @@ use std::alloc::{AllocError, Global};
 use std::snapshot::Snapshot;
 
 /// Scatters a network into its parts: its blocks, its inputs and its exits, with a watch of each block. What is under way over a
-/// link that was given is taken first. Threads turn the tasks, each one at a time, and `gather` puts the parts together again. Where
-/// memory is out the network comes back, and what was taken stays taken.
+/// link that was given is taken first, and nothing else happens. Threads turn the tasks, each one at a time, and `gather` puts the parts
+/// together again. Where memory is out the network comes back, and what was taken stays taken.
 pub fn scatter<W: Runs>(
     alloc: Global,
     mut net: Net<W>,
@@ -37,7 +38,7 @@ pub fn scatter<W: Runs>(
     ensures there { IfOk result (λ parts. AllThere parts.board parts.tasks.items parts.entries.items parts.exits.items) }
     ensures watches_of { IfOk result (λ parts. AllWatchesOf parts.board parts.watches.items) }
     ensures watched { IfOk result (λ parts. map watched_block parts.watches.items ≡ below (length (layout_in net).blocks)) }
-    ensures goes_on { IfOk result (λ parts. HasGoneOn W.meaning (layout_in net) (parts_of net) (begun_in parts.board)) }
+    ensures goes_on { IfOk result (λ parts. HasComeHome W.meaning (layout_in net) (parts_of net) (begun_in parts.board)) }
     ensures posted { IfOk result (λ parts. InputsStay (parts_of net) (begun_in parts.board)) }
     ensures extends { IfOk result (λ parts. JournalsExtend (layout_in net) (parts_of net) (begun_in parts.board)) }
     ensures journals { IfOk result (λ parts.
@@ -48,6 +49,7 @@ pub fn scatter<W: Runs>(
     ensures back { IfErr result (λ refused. layout_in refused.0 ≡ layout_in net) }
     ensures inputs_stay { IfErr result (λ refused. InputsStay (parts_of net) (parts_of refused.0)) }
     ensures extends_back { IfErr result (λ refused. JournalsExtend (layout_in net) (parts_of net) (parts_of refused.0)) }
+    ensures come_back { IfErr result (λ refused. HasComeBack W.meaning (layout_in net) (parts_of net) (parts_of refused.0)) }
     ensures lawful { IfErr result (λ refused. Lawful (run_of W.meaning refused.0)) }
 {
     match bring_home(alloc, &mut net) {
@@ -75,6 +77,7 @@ fn scatter_home<W: Runs>(alloc: Global, net: Net<W>) -> Result<Scattered<W>, (Ne
     ensures back { IfErr result (λ refused. layout_in refused.0 ≡ layout_in net) }
     ensures inputs_stay { IfErr result (λ refused. InputsStay (parts_of net) (parts_of refused.0)) }
     ensures journals_back { IfErr result (λ refused. journals_of (parts_of refused.0) ≡ journals_of (parts_of net)) }
+    ensures looked_back { IfErr result (λ refused. HasLookedAround W.meaning (layout_in net) (parts_of net) (parts_of refused.0)) }
     ensures lawful { IfErr result (λ refused. Lawful (run_of W.meaning refused.0)) }
 {
     let mut apart = net.into_parts();

@@ -24,6 +24,7 @@ fn refused(rt: &impl Abort, alloc: Global, parts: Parts<Steps>, number: usize) -
         panic!(rt; "parts are gathered though one is missing");
     };
     assert!(rt; fault == GatherFault::Missing(number));
+    assert!(rt; fault.number() == Some(1));
     parts
 }
 

@@ -4,7 +4,7 @@ ghost use Rattle.flow_board.specs.Parts.{watched_board};
 
 use crate::networks::{chain_watched, gathered};
 use crate::rounds::turn_all;
-use flow_board::{Board, Parts, Watch, WatchAt};
+use flow_board::{Board, Parts, Watch, WatchAt, watches_agree};
 use flow_link::Outcome;
 use flow_poll::{Completion, TurnState};
 use flow_value::Steps;
@@ -26,6 +26,7 @@ fn knows_done(
     assert!(rt; watch.read(board) == Some(Outcome::Done));
     let mut other = watch.again(board);
     assert!(rt; other.read(board) == Some(Outcome::Done));
+    watches_agree(&mut watch, &mut other);
     let waits = Completion::new(alloc, WatchAt::new(board, other));
     let Ok((at, outcome)) = block_on(rt, waits) else {
         panic!(rt; "not driven");

@@ -41,6 +41,11 @@ fill-requires-clause-exits_of g c =
     exits_sorted c.args.parts.board c.sort.new.self.board c.args.parts.exits.items c.sort.new.self.exits.items c.sort.ensures.board
     c.sort.ensures.exits_of c.requires.exits_of
 
+pub returns-in-Some-clause-why : goal.returns-in-Some-clause-why
+returns-in-Some-clause-why g c =
+    let found = c.in-Some.ensures in
+    record { before = found.before; within = found.within; absent = found.missing }
+
 pub returns-in-Some-clause-tasks_back : goal.returns-in-Some-clause-tasks_back
 returns-in-Some-clause-tasks_back g c =
     tasks_sorted c.args.parts.board c.sort.new.self.board c.args.parts.tasks.items c.sort.new.self.tasks.items c.sort.ensures.board

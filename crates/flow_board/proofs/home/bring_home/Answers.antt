@@ -5,7 +5,7 @@ use Rattle.flow_core.specs.State.{line_at}
 use Rattle.flow_core.proofs.InputsChange.{all_further, all_same}
 use Rattle.flow_net.specs.Net.{layout_in, parts_of}
 use Rattle.flow_wire.specs.Ends.{is_crossing}
-use Rattle.flow_board.proofs.TargetsTake.{gone_further, none_gone}
+use Rattle.flow_board.proofs.TargetsTake.{taken_further, none_taken}
 use Rattle.flow_board.proofs.home.bring_home.Goals as goal
 
 pub loop-id-init : goal.loop-id-init
@@ -14,7 +14,7 @@ loop-id-init g c =
       refl,
       (
         λ k small. absurd (omega (arith, small)),
-        (all_same (parts_of net), none_gone g.W.Runs.meaning (layout_in net) (parts_of net) (parts_of net) refl),
+        (all_same (parts_of net), none_taken g.W.Runs.meaning (layout_in net) (parts_of net) (parts_of net) refl),
       ),
     )
 
@@ -26,7 +26,7 @@ returns-in_err-bring_link_home-clause-inputs_stay g c =
 pub returns-in_err-bring_link_home-clause-goes_on : goal.returns-in_err-bring_link_home-clause-goes_on
 returns-in_err-bring_link_home-clause-goes_on g c =
     let i = c.loop-id.invariant in
-    gone_further g.W.Runs.meaning (layout_in c.args.net.now) (layout_in c.loop-id.net) (parts_of c.args.net.now)
+    taken_further g.W.Runs.meaning (layout_in c.args.net.now) (layout_in c.loop-id.net) (parts_of c.args.net.now)
     (parts_of c.loop-id.net) (parts_of c.bring_link_home.new.net) i.0 i.1.1.1 c.bring_link_home.ensures.goes_on
 
 pub loop-id-preserved : goal.loop-id-preserved
@@ -48,7 +48,7 @@ loop-id-preserved g c =
             (cases_order k id),
         (
           all_further (parts_of first) (parts_of net) (parts_of last) i.1.1.0 done.inputs_stay,
-          gone_further g.W.Runs.meaning (layout_in first) (layout_in net) (parts_of first) (parts_of net) (parts_of last) i.0 i.1.1.1
+          taken_further g.W.Runs.meaning (layout_in first) (layout_in net) (parts_of first) (parts_of net) (parts_of last) i.0 i.1.1.1
               done.goes_on,
         ),
       ),

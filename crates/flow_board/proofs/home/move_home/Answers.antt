@@ -1,9 +1,8 @@
 use Rattle.std.proofs.Common.{ap, ◌∙◌}
-use Rattle.flow_core.specs.Events.{NetEvent}
 use Rattle.flow_core.specs.State.{NetState, line_at}
 use Rattle.flow_exec.specs.Works.{works_of}
 use Rattle.flow_net.specs.Net.{layout_in, parts_of}
-use Rattle.flow_board.proofs.TargetsTake.{none_gone, not_refused, one_gone, others_stay, phase_is}
+use Rattle.flow_board.proofs.TargetsTake.{none_taken, not_refused, one_taken, others_stay, phase_is}
 use Rattle.flow_board.proofs.home.move_home.Goals as goal
 
 pub returns-in-Ok-clause-moved : goal.returns-in-Ok-clause-moved
@@ -21,13 +20,13 @@ returns-in-Ok-clause-others g c = λ l other.
 pub returns-in-Ok-clause-goes_on : goal.returns-in-Ok-clause-goes_on
 returns-in-Ok-clause-goes_on g c =
     let net = c.args.net.now in
-    one_gone g.W.Runs.meaning (layout_in net) (parts_of net) (parts_of c.event.new.self) (NetEvent.at_link c.args.id c.args.next)
+    one_taken g.W.Runs.meaning (layout_in net) (parts_of net) (parts_of c.event.new.self) c.args.id c.args.next c.requires.next
     c.in-Ok.ensures.enabled c.in-Ok.ensures.moved
 
 pub returns-in-Memory-clause-goes_on : goal.returns-in-Memory-clause-goes_on
 returns-in-Memory-clause-goes_on g c =
     let net = c.args.net.now in
-    none_gone g.W.Runs.meaning (layout_in net) (parts_of net) (parts_of c.event.new.self) c.in-Err.ensures.kept
+    none_taken g.W.Runs.meaning (layout_in net) (parts_of net) (parts_of c.event.new.self) c.in-Err.ensures.kept
 
 pub unreachable-requires : goal.unreachable-requires
 unreachable-requires g c =

@@ -8,14 +8,14 @@ use Rattle.flow_link.specs.LinkOk.{LinkOk}
 use Rattle.flow_link.specs.Planned.{layout_of}
 use Rattle.flow_wire.specs.Ends.{Start, is_crossing}
 use Rattle.flow_block.specs.Node.{NodeState}
-use Rattle.flow_core.specs.InOrder.{NetInOrder, journals_of}
+use Rattle.flow_core.specs.InOrder.{NetInOrder, all_looked, journals_of}
 use Rattle.flow_core.specs.State.{NetState, line_at}
 use Rattle.flow_exec.specs.Works.{works_of}
 use Rattle.flow_apart.specs.Apart.{apart_in, apart_layout}
 use Rattle.flow_apart.specs.declared.parts.NetParts.{NetParts}
 use Rattle.flow_net.specs.Net.{layout_in, parts_of}
 use Rattle.flow_task.specs.Frames.{IsRoomFor}
-use Rattle.flow_task.specs.Orders.{AreInOrder}
+use Rattle.flow_task.specs.Orders.{AreInOrder, HasLookedAround}
 use Rattle.flow_task.specs.Begun.{begun_in}
 use Rattle.flow_board.specs.Gathers.{KnowsTaken}
 use Rattle.flow_task.specs.Parts.{board_layout, marks_in}
@@ -153,6 +153,37 @@ join-requires-in-Err-wire_up g c =
     (λ l small.
     subst (λ (start : Start). LinkOk start.facts (get_or new.lines.items l idle).phase (get_or new.lines.items l idle).slot start.source start.target)
     (same l) (c.in-Err-wire_up.ensures.back l (subst (λ (k : ℕ). l < k) (sym count) small)).in_order)
+
+pub returns-in-Err-clause-looked_back : goal.returns-in-Err-clause-looked_back
+returns-in-Err-clause-looked_back g c =
+    let apart = c.into_parts-apart in
+    let layout = apart_layout apart.result in
+    let means = g.W.Runs.meaning in
+    let new = parts_of c.join.result in
+    subst (λ (lay : Layout _). HasLookedAround means lay (parts_of c.args.net) new) apart.ensures.same_layout
+    (subst (λ (state : NetState). HasLookedAround means layout state new) apart.ensures.same_parts
+    (apart.result.lines.items, c.join.ensures.looked))
+
+pub returns-in-Err-wire_up-clause-looked_back : goal.returns-in-Err-wire_up-clause-looked_back
+returns-in-Err-wire_up-clause-looked_back g c =
+    let apart = c.into_parts-apart in
+    let old = apart.result in
+    let now = c.wire_up.new.apart in
+    let means = g.W.Runs.meaning in
+    let new = parts_of c.join-in-Err-wire_up.result in
+    let lines = now.lines.items in
+    subst (λ (lay : Layout _). HasLookedAround means lay (parts_of c.args.net) new) apart.ensures.same_layout
+    (subst (λ (state : NetState). HasLookedAround means (apart_layout old) state new) apart.ensures.same_parts (
+      lines,
+      c.join-in-Err-wire_up.ensures.looked
+          ∙ moved (λ plan nodes inputs exits.
+          all_looked (layout_of now.plan) (works_of means (layout_of now.plan)) (length (layout_of now.plan).links) (apart_in now)
+          ≡ all_looked (layout_of plan) (works_of means (layout_of plan)) (length (layout_of plan).links)
+          (record { nodes = nodes; inputs = inputs; exits = exits; lines = lines }))
+          now.plan old.plan now.nodes.items old.nodes.items now.inputs.items old.inputs.items now.exits.items old.exits.items
+          c.wire_up.ensures.plan (ap (λ v. v.items) c.wire_up.ensures.nodes) (ap (λ v. v.items) c.wire_up.ensures.inputs)
+          (ap (λ v. v.items) c.wire_up.ensures.exits) refl,
+    ))
 
 pub returns-in-Ok-wire_up-clause-begun : goal.returns-in-Ok-wire_up-clause-begun
 returns-in-Ok-wire_up-clause-begun g c =
