@@ -16,10 +16,11 @@ use std::fs::Files;
 use std::io::{BufReader, BufWriter, ErrorKind, Input, Read, Write};
 use std::sync::Wait;
 use std::thread::Threads;
+use std::time::{Clock, CpuClock};
 use std::{fs, io, mem};
 
 /// Runs the network in this file over the records in standard input.
-pub fn run_file<R: Files + Input + Print + AllocGlobal + Threads + Wait + Sync>(
+pub fn run_file<R: Files + Input + Print + AllocGlobal + Threads + Wait + Clock + CpuClock + Sync>(
     rt: &R,
     path: &str,
     bounds: Bounds,
@@ -34,7 +35,7 @@ pub fn run_file<R: Files + Input + Print + AllocGlobal + Threads + Wait + Sync>(
 }
 
 /// Runs a network over records, and writes its report through a buffer.
-fn run_buffered<C: Threads + Wait + Sync, R: Read + Drop, W: Write + Drop>(
+fn run_buffered<C: Threads + Wait + Clock + CpuClock + Sync, R: Read + Drop, W: Write + Drop>(
     rt: &C,
     alloc: Global,
     text: &[u8],
@@ -60,7 +61,7 @@ fn run_buffered<C: Threads + Wait + Sync, R: Read + Drop, W: Write + Drop>(
 }
 
 /// Runs the network at the beginning of what is read over the records behind it.
-pub fn run_input<C: Threads + Wait + Sync, R: Read + Drop, W: Write>(
+pub fn run_input<C: Threads + Wait + Clock + CpuClock + Sync, R: Read + Drop, W: Write>(
     rt: &C,
     alloc: Global,
     reader: R,
@@ -78,7 +79,7 @@ pub fn run_input<C: Threads + Wait + Sync, R: Read + Drop, W: Write>(
 }
 
 /// Runs a network over records, and writes its report once all of it is there.
-fn run_whole<C: Threads + Wait + Sync, W: Write>(
+fn run_whole<C: Threads + Wait + Clock + CpuClock + Sync, W: Write>(
     rt: &C,
     alloc: Global,
     text: &[u8],

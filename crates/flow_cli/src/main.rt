@@ -19,6 +19,7 @@ use std::io::Input;
 use std::process::ExitCode;
 use std::sync::Wait;
 use std::thread::Threads;
+use std::time::{Clock, CpuClock};
 use std::{env, io};
 
 fn main(rt: HostRuntime) -> ExitCode {
@@ -29,7 +30,7 @@ fn main(rt: HostRuntime) -> ExitCode {
 }
 
 /// Does what the arguments of the process ask for.
-fn perform<R: Env + Files + Input + Print + AllocGlobal + Threads + Wait + Sync>(
+fn perform<R: Env + Files + Input + Print + AllocGlobal + Threads + Wait + Clock + CpuClock + Sync>(
     rt: &R,
 ) -> Conclusion {
     match arguments(rt) {
@@ -58,7 +59,7 @@ fn unread_arguments(error: &io::Error) -> Conclusion {
 }
 
 /// Does what these arguments ask for.
-fn answer<R: Files + Input + Print + AllocGlobal + Threads + Wait + Sync>(
+fn answer<R: Files + Input + Print + AllocGlobal + Threads + Wait + Clock + CpuClock + Sync>(
     rt: &R,
     arguments: &[String],
 ) -> Conclusion

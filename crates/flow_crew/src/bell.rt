@@ -8,6 +8,7 @@
 use std::hint::spin_loop;
 use std::sync::Wait;
 use std::sync::atomic::{AtomicU64, Ordering};
+use std::thread::yield_now;
 use std::time::Duration;
 
 /// How often a worker looks before it sleeps: for about a microsecond.
@@ -15,6 +16,12 @@ const LOOKS: u32 = 200;
 
 /// How long it sleeps at most, in milliseconds.
 const SLEEP: u64 = 1;
+
+/// How often a put that another thread is in the way of is tried again at once, and how often once other threads had their turn, before
+/// the worker sleeps between two tries.
+const AT_ONCE: u32 = 8;
+
+const YIELDS: u32 = 8;
 
 #[derive(Drop)]
 pub(crate) struct Bell {
@@ -88,12 +95,28 @@ impl Bell {
             }
             spin_loop();
         }
+        self.sleep(rt, heard);
+        self.idle.fetch_sub(1, Ordering::SeqCst);
+    }
+
+    /// Sleeps for a millisecond at most, or until a ring behind those that were heard.
+    fn sleep<R: Wait>(&self, rt: &R, heard: u64) {
         if self.rings() == heard {
             let word = (heard % (1 << 32)) as u32;
             self.rings
                 .park_timeout(rt, word, Duration::from_millis(SLEEP));
         }
-        self.idle.fetch_sub(1, Ordering::SeqCst);
+    }
+
+    /// Another thread was in the way of a put so often: this one lets it go on, the longer the oftener it was.
+    pub(crate) fn give_way<R: Wait>(&self, rt: &R, tries: u32) {
+        if tries < AT_ONCE {
+            spin_loop();
+        } else if tries < AT_ONCE + YIELDS {
+            yield_now();
+        } else {
+            self.sleep(rt, self.rings());
+        }
     }
 }
 

@@ -1,12 +1,13 @@
 //! The workers of a round, joined by halves.
-ghost use Rattle.std.specs.Prelude.{◌≡◌, ◌≤◌, ◌<◌, [], length, Some};
+ghost use Rattle.std.specs.Prelude.{◌≡◌, ◌≤◌, ◌<◌, [], Some};
 ghost use Rattle.std.specs.Thread.{IsSend, IsSync};
-ghost use Rattle.crossbeam_queue.specs.Passes.{view, IsPassOf, ruled_capacity};
+ghost use Rattle.crossbeam_queue.specs.Passes.{view, IsPassOf};
 
 use crate::bell::{Bell, Lull};
 use crate::item::Round;
 use crate::laws::{crosses, is_shared, items_cross};
 use crate::rule::{Halves, Queue, Ticket};
+use crate::shift::Hours;
 use crate::worker::{Done, Worker};
 use flow_board::{Board, Gate, boards_are_shared};
 use flow_value::Runs;
@@ -14,6 +15,7 @@ use std::alloc::Global;
 use std::collections::VecDeque;
 use std::sync::Wait;
 use std::thread::{Threads, join};
+use std::time::Clock;
 
 /// What a worker is told of the round.
 #[derive(Clone, Copy)]
@@ -26,19 +28,20 @@ pub(crate) struct Share {
 }
 
 /// One worker: it takes tasks, turns them and puts them back, until none moves. Once its budget is used it does jobs of lanes alone, which
-/// are no events. Its pass comes back as it was.
-fn work<W: Runs, J: Round<W>, R: Wait, G: Gate>(
+/// are no events; it ends with the hours. Its pass comes back as it was.
+fn work<W: Runs, J: Round<W>, R: Wait + Clock, G: Gate>(
     rt: &R,
     alloc: Global,
     board: &Board<W>,
     queue: &Queue<W, J>,
     bell: &Bell,
+    hours: &Hours,
     pass: Ticket<W, J>,
     share: Share,
     gate: &G,
 ) -> (Ticket<W, J>, Done)
     requires board { J.board ≡ Some board.now }
-    requires queue { IsPassOf queue.now pass × (length J.all ≤ ruled_capacity queue.now) }
+    requires queue { IsPassOf queue.now pass }
     requires pass { (0 < (view pass).parts) × ((view pass).holds ≡ []) }
     ensures queue { IsPassOf queue.now result.0 }
     ensures pass { ((view result.0).parts ≡ (view pass).parts) × ((view result.0).holds ≡ []) }
@@ -54,19 +57,29 @@ fn work<W: Runs, J: Round<W>, R: Wait, G: Gate>(
     let mut refused = false;
     bell.come();
     for _ in rt.forever() {
-        if refused || bell.is_over() {
+        if refused || bell.is_over() || hours.is_over(rt, 0) {
             break;
         }
         lull.listen(bell);
         let has_job = worker.take_some(queue, share.chunk);
         let taken = worker.held.len();
         let done = if has_job {
-            worker.turn_to_job(rt, alloc, board, queue, bell, share.budget - events, gate)
+            worker.turn_to_job(
+                rt,
+                alloc,
+                board,
+                queue,
+                bell,
+                hours,
+                share.budget - events,
+                gate,
+            )
         } else {
-            worker.turn_all(alloc, board, bell, share.budget - events, gate)
+            worker.turn_all(rt, alloc, board, bell, hours, share.budget - events, gate)
         };
-        worker.put_all(rt, queue);
+        worker.put_all(rt, queue, bell);
         events += done.events;
+        hours.count(done.events);
         refused = done.refused;
         if refused {
             bell.end();
@@ -76,7 +89,7 @@ fn work<W: Runs, J: Round<W>, R: Wait, G: Gate>(
             lull.lay_still(rt, bell, taken, share.tasks);
         }
     }
-    worker.put_all(rt, queue);
+    worker.put_all(rt, queue, bell);
     bell.leave();
     let done = Done {
         events,
@@ -90,7 +103,7 @@ fn work<W: Runs, J: Round<W>, R: Wait, G: Gate>(
 pub(crate) fn crew<
     W: Runs + Send + Sync,
     J: Round<W> + Send + Sync,
-    R: Threads + Wait + Sync,
+    R: Threads + Wait + Clock + Sync,
     G: Gate + Sync,
 >(
     rt: &R,
@@ -98,20 +111,21 @@ pub(crate) fn crew<
     board: &Board<W>,
     queue: &Queue<W, J>,
     bell: &Bell,
+    hours: &Hours,
     mut pass: Ticket<W, J>,
     workers: usize,
     share: Share,
     gate: &G,
 ) -> (Ticket<W, J>, Done)
     requires board { J.board ≡ Some board.now }
-    requires queue { IsPassOf queue.now pass × (length J.all ≤ ruled_capacity queue.now) }
+    requires queue { IsPassOf queue.now pass }
     requires pass { (workers ≤ (view pass).parts) × (0 < (view pass).parts) × ((view pass).holds ≡ []) }
     ensures queue { IsPassOf queue.now result.0 }
     ensures pass { ((view result.0).parts ≡ (view pass).parts) × ((view result.0).holds ≡ []) }
     ensures within { result.1.events ≤ share.budget }
 {
     if workers < 2 {
-        return work(rt, alloc, board, queue, bell, pass, share, gate);
+        return work(rt, alloc, board, queue, bell, hours, pass, share, gate);
     }
     items_cross::<W, J>();
     crosses::<Ticket<W, J>>();
@@ -133,16 +147,24 @@ pub(crate) fn crew<
     let other = queue.another::<Halves>(&mut pass);
     let front = move || -> (Ticket<W, J>, Done)
         requires { IsSend W.row × IsSync W.row × IsSend J.row × IsSync J.row × IsSync R.row × IsSync G.row × (J.board ≡ Some board.now) × IsPassOf queue.now pass
-            × (length J.all ≤ ruled_capacity queue.now) × (high ≤ (view pass).parts) × (0 < (view pass).parts) × ((view pass).holds ≡ []) }
+            × (high ≤ (view pass).parts) × (0 < (view pass).parts) × ((view pass).holds ≡ []) }
         ensures { IsPassOf queue.entry.now result.0 × ((view result.0).parts ≡ (view pass).parts) × ((view result.0).holds ≡ [])
             × (result.1.events ≤ upper.budget) }
-    { crew(rt, alloc, board, queue, bell, pass, high, upper, gate) };
+    {
+        crew(
+            rt, alloc, board, queue, bell, hours, pass, high, upper, gate,
+        )
+    };
     let back = move || -> (Ticket<W, J>, Done)
         requires { IsSend W.row × IsSync W.row × IsSend J.row × IsSync J.row × IsSync R.row × IsSync G.row × (J.board ≡ Some board.now) × IsPassOf queue.now other
-            × (length J.all ≤ ruled_capacity queue.now) × (low ≤ (view other).parts) × (0 < (view other).parts) × ((view other).holds ≡ []) }
+            × (low ≤ (view other).parts) × (0 < (view other).parts) × ((view other).holds ≡ []) }
         ensures { IsPassOf queue.entry.now result.0 × ((view result.0).parts ≡ (view other).parts) × ((view result.0).holds ≡ [])
             × (result.1.events ≤ lower.budget) }
-    { crew(rt, alloc, board, queue, bell, other, low, lower, gate) };
+    {
+        crew(
+            rt, alloc, board, queue, bell, hours, other, low, lower, gate,
+        )
+    };
     let ((mut pass, first), (other, second)) = join(rt, front, back);
     queue.absorb::<Halves>(&mut pass, other);
     let done = Done {

@@ -19,7 +19,9 @@ mod queue;
 mod round;
 mod rule;
 mod run;
+mod shift;
 mod worker;
 
 pub use round::turn_round;
-pub use run::{RunFault, how_settled, run_workers};
+pub use run::{RunFault, how_settled, run_shift, run_workers};
+pub use shift::Shift;

@@ -9,18 +9,20 @@ use crate::crew::{Share, crew};
 use crate::item::Round;
 use crate::queue::{put_in, take_out};
 use crate::rule::Queue;
+use crate::shift::Hours;
 use flow_board::{Board, Gate, Task};
 use flow_value::Runs;
 use std::alloc::{AllocError, Global};
 use std::marker::Brand;
 use std::sync::Wait;
 use std::thread::Threads;
+use std::time::Clock;
 
 /// Turns all tasks of this round.
 fn turn_in<
     W: Runs + Send + Sync,
     J: Round<W> + Send + Sync,
-    R: Threads + Wait + Sync,
+    R: Threads + Wait + Clock + Sync,
     G: Gate + Sync,
 >(
     rt: &R,
@@ -29,6 +31,7 @@ fn turn_in<
     tasks: Vec<Task<W>>,
     workers: usize,
     gate: &G,
+    hours: &Hours,
     budget: u64,
 ) -> Result<(Vec<Task<W>>, u64), (Vec<Task<W>>, AllocError)>
     requires workers { (0 < workers) × (workers ≤ 64) }
@@ -50,12 +53,16 @@ fn turn_in<
     let mut tasks = tasks;
     put_in(rt, &queue, &mut pass, &mut tasks);
     let bell = Bell::new();
+    // no more than there are tasks for
+    let workers = workers.min(count);
     let share = Share {
         chunk: (count - 1) / workers + 1,
         tasks: count,
         budget,
     };
-    let (mut pass, done) = crew(rt, alloc, board, &queue, &bell, pass, workers, share, gate);
+    let (mut pass, done) = crew(
+        rt, alloc, board, &queue, &bell, hours, pass, workers, share, gate,
+    );
     take_out(rt, &queue, &mut pass, &mut tasks);
     if done.refused {
         return Err((tasks, AllocError));
@@ -63,8 +70,8 @@ fn turn_in<
     Ok((tasks, done.events))
 }
 
-/// Turns the tasks of a board on so many threads, 1 to 64, until none moves or the budget is used, and tells how many events were done: at
-/// most so many. Each task comes back once, in any order, and its journal goes on from where it was.
+/// Turns the tasks of a board on so many threads, 1 to 64 but no more than there are tasks, until none moves or the budget is used, and
+/// tells how many events were done: at most so many. Each task comes back once, in any order, and its journal goes on from where it was.
 ///
 /// A round that did no event has found nothing to do, unless the budget is 0. A round that did some may end with events left to do: each
 /// worker has a share of the budget, and ends when that is used. So call it again, until a round does none.
@@ -75,7 +82,7 @@ fn turn_in<
 /// waits for may be done by the others.
 ///
 /// It waits for its workers. A worker that finds nothing to do sleeps until another has moved a task, a millisecond at most at a time.
-pub fn turn_round<W: Runs + Send + Sync, R: Threads + Wait + Sync, G: Gate + Sync>(
+pub fn turn_round<W: Runs + Send + Sync, R: Threads + Wait + Clock + Sync, G: Gate + Sync>(
     rt: &R,
     alloc: Global,
     board: &Board<W>,
@@ -90,5 +97,34 @@ pub fn turn_round<W: Runs + Send + Sync, R: Threads + Wait + Sync, G: Gate + Syn
     ensures within { IfOk result (λ r. r.1 ≤ budget) }
     ensures refused { IfErr result (λ r. ComeBack board.now tasks.items r.0.items) }
 {
-    turn_in::<W, Brand, R, G>(rt, alloc, board, tasks, workers, gate, budget)
+    turn_for(
+        rt,
+        alloc,
+        board,
+        tasks,
+        workers,
+        gate,
+        &Hours::begin(rt, None),
+        budget,
+    )
+}
+
+/// The same, until the hours are over.
+pub(crate) fn turn_for<W: Runs + Send + Sync, R: Threads + Wait + Clock + Sync, G: Gate + Sync>(
+    rt: &R,
+    alloc: Global,
+    board: &Board<W>,
+    tasks: Vec<Task<W>>,
+    workers: usize,
+    gate: &G,
+    hours: &Hours,
+    budget: u64,
+) -> Result<(Vec<Task<W>>, u64), (Vec<Task<W>>, AllocError)>
+    requires workers { (0 < workers) × (workers ≤ 64) }
+    requires of { AllTasksOf board.now tasks.items }
+    ensures back { IfOk result (λ r. ComeBack board.now tasks.items r.0.items) }
+    ensures within { IfOk result (λ r. r.1 ≤ budget) }
+    ensures refused { IfErr result (λ r. ComeBack board.now tasks.items r.0.items) }
+{
+    turn_in::<W, Brand, R, G>(rt, alloc, board, tasks, workers, gate, hours, budget)
 }

@@ -1,17 +1,20 @@
 //! A worker: its pass names the tasks that it holds.
-ghost use Rattle.std.specs.Prelude.{◌≡◌, ◌≤◌, ◌<◌, ◌+◌, ◌^◌, [], length, Some, IsFalse, IsTrue};
+ghost use Rattle.std.specs.Prelude.{◌≡◌, ◌≤◌, ◌<◌, ◌+◌, ◌^◌, [], ◌∷◌, drop, Some, IsFalse, IsTrue};
 ghost use Rattle.std.specs.VecDeque.{deque_len};
-ghost use Rattle.crossbeam_queue.specs.Passes.{view, IsPassOf, ruled_capacity};
+ghost use Rattle.crossbeam_queue.specs.Passes.{view, IsPassOf};
+ghost use Rattle.flow_crew.specs.Rules.{hand};
 
 use crate::bell::Bell;
 use crate::item::{Item, Round};
 use crate::rule::{Puts, Queue, Takes, Ticket};
+use crate::shift::Hours;
 use flow_board::{Board, Gate};
 use flow_poll::{TurnState, Turned};
 use flow_value::Runs;
 use std::alloc::{AllocError, Global};
 use std::collections::VecDeque;
 use std::sync::Wait;
+use std::time::Clock;
 
 /// How many events a task does at a time.
 const TURN: u64 = 64;
@@ -128,49 +131,44 @@ impl<W: Runs, J: Round<W>> Worker<W, J> {
     }
 
     /// Puts the first task back, if there is one.
-    fn put<R: Wait>(&mut self, rt: &R, queue: &Queue<W, J>) -> bool
+    fn put<R: Wait>(&mut self, rt: &R, queue: &Queue<W, J>, bell: &Bell) -> bool
         requires queue { IsPassOf queue.now self.old.pass }
         requires part { 0 < (view self.old.pass).parts }
-        requires room { length J.all ≤ ruled_capacity queue.now }
         ensures queue { IsPassOf queue.now self.new.pass }
         ensures part { (view self.new.pass).parts ≡ (view self.old.pass).parts }
         ensures fewer { IsTrue result → deque_len self.new.held < deque_len self.old.held }
         ensures none { IsFalse result → self.new.held.items ≡ [] }
     {
-        match self.held.pop_front() {
-            Some(item) => match queue.push_as::<Puts<J>, R>(rt, &mut self.pass, item) {
-                Ok(()) => true,
-                Err(_) => unreachable!(),
-            },
-            None => false,
-        }
+        let Some(item) = self.held.pop_front() else {
+            return false;
+        };
+        put_back(rt, queue, bell, &mut self.pass, item);
+        true
     }
 
     /// Puts all but the last back.
-    fn put_others<R: Wait>(&mut self, rt: &R, queue: &Queue<W, J>)
+    fn put_others<R: Wait>(&mut self, rt: &R, queue: &Queue<W, J>, bell: &Bell)
         requires queue { IsPassOf queue.now self.old.pass }
         requires part { 0 < (view self.old.pass).parts }
-        requires room { length J.all ≤ ruled_capacity queue.now }
         ensures queue { IsPassOf queue.now self.new.pass }
         ensures part { (view self.new.pass).parts ≡ (view self.old.pass).parts }
     {
         while self.held.len() > 1 {
-            if !self.put(rt, queue) {
+            if !self.put(rt, queue, bell) {
                 break;
             }
         }
     }
 
     /// Puts all back.
-    pub(crate) fn put_all<R: Wait>(&mut self, rt: &R, queue: &Queue<W, J>)
+    pub(crate) fn put_all<R: Wait>(&mut self, rt: &R, queue: &Queue<W, J>, bell: &Bell)
         requires queue { IsPassOf queue.now self.old.pass }
         requires part { 0 < (view self.old.pass).parts }
-        requires room { length J.all ≤ ruled_capacity queue.now }
         ensures queue { IsPassOf queue.now self.new.pass }
         ensures part { (view self.new.pass).parts ≡ (view self.old.pass).parts }
         ensures none { self.new.held.items ≡ [] }
     {
-        while self.put(rt, queue) {}
+        while self.put(rt, queue, bell) {}
     }
 
     /// Does the job that has come to the lane which is held last.
@@ -193,27 +191,36 @@ impl<W: Runs, J: Round<W>> Worker<W, J> {
 
     /// Turns what it took before the last task, a lane to which a job has come, for some events while any moves; then it puts all that back,
     /// and does the job.
-    pub(crate) fn turn_to_job<R: Wait, G: Gate>(
+    pub(crate) fn turn_to_job<R: Wait + Clock, G: Gate>(
         &mut self,
         rt: &R,
         alloc: Global,
         board: &Board<W>,
         queue: &Queue<W, J>,
         bell: &Bell,
+        hours: &Hours,
         budget: u64,
         gate: &G,
     ) -> Done
         requires board { J.board ≡ Some board.now }
         requires queue { IsPassOf queue.now self.old.pass }
         requires part { 0 < (view self.old.pass).parts }
-        requires room { length J.all ≤ ruled_capacity queue.now }
         ensures queue { IsPassOf queue.now self.new.pass }
         ensures part { (view self.new.pass).parts ≡ (view self.old.pass).parts }
         ensures within { result.events ≤ budget }
     {
         let others = self.held.len().saturating_sub(1);
-        let turned = self.turn_first(alloc, board, bell, others, budget.min(AHEAD), gate);
-        self.put_others(rt, queue);
+        let turned = self.turn_first(
+            rt,
+            alloc,
+            board,
+            bell,
+            hours,
+            others,
+            budget.min(AHEAD),
+            gate,
+        );
+        self.put_others(rt, queue, bell);
         bell.ring();
         if turned.refused {
             return turned;
@@ -225,13 +232,15 @@ impl<W: Runs, J: Round<W>> Worker<W, J> {
         }
     }
 
-    /// Turns each task that is held again and again, while any moves and the budget lasts, but not for long once a job has come to a lane
-    /// among them.
-    pub(crate) fn turn_all<G: Gate>(
+    /// Turns each task that is held again and again, while any moves and the budget and the hours last, but not for long once a job has
+    /// come to a lane among them.
+    pub(crate) fn turn_all<R: Clock, G: Gate>(
         &mut self,
+        rt: &R,
         alloc: Global,
         board: &Board<W>,
         bell: &Bell,
+        hours: &Hours,
         budget: u64,
         gate: &G,
     ) -> Done
@@ -240,15 +249,17 @@ impl<W: Runs, J: Round<W>> Worker<W, J> {
         ensures within { result.events ≤ budget }
     {
         let tasks = self.held.len();
-        self.turn_first(alloc, board, bell, tasks, budget, gate)
+        self.turn_first(rt, alloc, board, bell, hours, tasks, budget, gate)
     }
 
     /// The same of so many of them, the first. Each time that any has moved it rings, since tasks of others may move then.
-    fn turn_first<G: Gate>(
+    fn turn_first<R: Clock, G: Gate>(
         &mut self,
+        rt: &R,
         alloc: Global,
         board: &Board<W>,
         bell: &Bell,
+        hours: &Hours,
         tasks: usize,
         budget: u64,
         gate: &G,
@@ -271,6 +282,9 @@ impl<W: Runs, J: Round<W>> Worker<W, J> {
                 break;
             }
             bell.ring();
+            if hours.is_over(rt, done.events) {
+                break;
+            }
         }
         done
     }
@@ -317,4 +331,32 @@ impl<W: Runs, J: Round<W>> Worker<W, J> {
         drop(held);
         pass
     }
+}
+
+/// Puts the task that a pass holds first back into the queue. Where another thread is in the way, it waits until that has gone on; the queue
+/// has room for all tasks.
+fn put_back<W: Runs, J: Round<W>, R: Wait>(
+    rt: &R,
+    queue: &Queue<W, J>,
+    bell: &Bell,
+    pass: &mut Ticket<W, J>,
+    item: Item<W, J>,
+)
+    requires queue { IsPassOf queue.now pass.old }
+    requires part { 0 < (view pass.old).parts }
+    requires first { (view pass.old).holds ≡ item ∷ drop 1 (view pass.old).holds }
+    ensures queue { IsPassOf queue.now pass.new }
+    ensures view { view pass.new ≡ hand (view pass.old).parts (drop 1 (view pass.old).holds) }
+{
+    let mut item = item;
+    let mut tries = 0;
+    for _ in rt.forever() {
+        match queue.try_push_as::<Puts<J>>(pass, item) {
+            Ok(()) => return,
+            Err(back) => item = back,
+        }
+        bell.give_way(rt, tries);
+        tries = tries.saturating_add(1);
+    }
+    unreachable!()
 }

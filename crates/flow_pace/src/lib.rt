@@ -2,13 +2,13 @@
 //!
 //! Whoever hands a message to another thread pays some hundred nanoseconds for it, whatever is done with the message there. So a crew is the
 //! quicker one only where events take long, and nobody can tell that of a network before. It is watched: events are counted against the
-//! milliseconds that pass, and judged every few of these. Each way of doing them is a lawful one, so the judgement may be wrong: it costs
-//! time, and nothing else.
+//! milliseconds of processor time that their owner uses, and judged every few of these. A crew goes on for a while, and then the owner
+//! judges again. Each way of doing events is a lawful one, so the judgement may be wrong: it costs time, and nothing else.
 #![tactic(auto)]
 
 mod pace;
 mod run;
 mod short;
-mod ticks;
+mod used;
 
-pub use run::run_paced;
+pub use run::{Start, run_paced};

@@ -4,7 +4,7 @@ ghost use Rattle.std.specs.Prelude.{◌<◌};
 /// How many events are done between two looks at the time, at most. Messages go on in runs, and each look cuts one.
 const MOST: u64 = 4_096;
 
-/// Over how many milliseconds events are counted before they are judged, at least.
+/// Over how many milliseconds of processor time events are counted before they are judged, at least.
 const SPAN: u64 = 8;
 
 /// How many events go into a millisecond, at least, where they are short. A crew does one in about as long.
@@ -13,7 +13,7 @@ pub(crate) const SHORT: u64 = 1_000;
 /// The same where a block has several lanes. So its works are done side by side by a crew, and only what is around them in turn.
 pub(crate) const SHORT_IN_LANES: u64 = 2_000;
 
-/// Counts events against the milliseconds that pass.
+/// Counts events against the milliseconds of processor time that their thread uses.
 #[derive(Drop)]
 pub(crate) struct Pace {
     since: u64,

@@ -10,35 +10,53 @@ ghost use Rattle.flow_crew.specs.Runs.{IsLeft, RunsOn};
 ghost use Rattle.flow_pace.specs.Alone.{IsLeftAlone};
 
 use crate::short::settle_while_short;
-use flow_board::OpenGate;
-use flow_crew::{RunFault, how_settled, run_workers};
+use flow_board::Gate;
+use flow_crew::{RunFault, Shift, how_settled, run_shift, run_workers};
 use flow_net::{Net, NetFault, Settled};
 use flow_value::Runs;
 use std::alloc::Global;
 use std::sync::Wait;
-use std::thread::Threads;
+use std::thread::{Threads, available_parallelism};
+use std::time::{Clock, CpuClock, Duration};
 
-/// How many events a crew does at first, at most, before it is seen again how long they take; later it is four times as many each time.
-///
-/// Each worker has a part of them, and one that has used its part does jobs of lanes alone. So the parts are large: a block with many lanes
-/// would else wait for the worker that has some left. Should events turn short meanwhile, a crew takes about half a second for so many.
-const SHARE: u64 = 1 << 20;
+/// How many milliseconds a crew goes on at first before it is seen again how long events take; later it is four times as long each time.
+/// Should events turn short meanwhile, so much time is lost at most.
+const SHIFT: u64 = 256;
+
+/// How many events it does at least. With few, it would cost more to begin than it does.
+const EVENTS: u64 = 4_096;
+
+/// When a crew begins to do events.
+#[derive(Clone, Copy)]
+pub enum Start {
+    /// While they are long.
+    WhileLong,
+    /// At once, and it does all of them. So each event goes through the crew, whatever it costs.
+    AtOnce,
+}
 
 /// Runs a network on so many threads, 1 to 64, until nothing may happen any more, or as many events are done as the limit. Inputs that
 /// stay open and exits do what the network does for them by itself; no call is made there.
 ///
-/// One worker does the events one after another, as `Net::settle` does. Of several, one does so while events are short, a microsecond each
-/// on average, or half of one where a block has several lanes, and a second one watches the time; while they are long all of them do, as
-/// `flow_crew::run_workers` has it.
+/// One worker does the events one after another, as `Net::settle` does. Of several, one does so while events are short, a microsecond of
+/// processor time each on average, or half of one where a block has several lanes; while they are long a crew does, as
+/// `flow_crew::run_workers` has it. It is no larger than the processors that the process may use, but of two at least: works compute, and
+/// more threads than processors gain nothing. Each job that a crew does goes through the gate.
 ///
 /// Errors: message ids or memory are used up. Whatever was done until then stays done, and comes back.
 ///
 /// It waits for its threads.
-pub fn run_paced<W: Runs + Send + Sync, R: Threads + Wait + Sync>(
+pub fn run_paced<
+    W: Runs + Send + Sync,
+    R: Threads + Wait + Clock + CpuClock + Sync,
+    G: Gate + Sync,
+>(
     rt: &R,
     alloc: Global,
     net: Net<W>,
     workers: usize,
+    gate: &G,
+    start: Start,
     limit: u64,
 ) -> Result<(Net<W>, Settled), RunFault<W>>
     requires workers { (0 < workers) × (workers ≤ 64) }
@@ -54,9 +72,11 @@ pub fn run_paced<W: Runs + Send + Sync, R: Threads + Wait + Sync>(
     ensures left_alone { IfErr result (λ fault. workers ≡ 1 → IsLeftAlone W.meaning limit net fault) }
 {
     if workers == 1 {
-        run_alone(alloc, net, limit)
-    } else {
-        run_together(rt, alloc, net, workers, limit)
+        return run_alone(alloc, net, limit);
+    }
+    match start {
+        Start::WhileLong => run_together(rt, alloc, net, workers, gate, limit),
+        Start::AtOnce => run_workers(rt, alloc, net, workers, gate, limit),
     }
 }
 
@@ -84,11 +104,12 @@ fn run_alone<W: Runs>(
 }
 
 /// The owner and a crew do the events by turns, at most so many.
-fn run_together<W: Runs + Send + Sync, R: Threads + Wait + Sync>(
+fn run_together<W: Runs + Send + Sync, R: Threads + Wait + Clock + CpuClock + Sync, G: Gate + Sync>(
     rt: &R,
     alloc: Global,
     mut net: Net<W>,
     workers: usize,
+    gate: &G,
     limit: u64,
 ) -> Result<(Net<W>, Settled), RunFault<W>>
     requires workers { (0 < workers) × (workers ≤ 64) }
@@ -99,26 +120,39 @@ fn run_together<W: Runs + Send + Sync, R: Threads + Wait + Sync>(
     ensures at_rest { IfOk result (λ ran. ran.1 ≡ settled.Quiet → AtRest (layout_in ran.0) (parts_of ran.0)) }
     ensures left { IfErr result (λ fault. IsLeft W.meaning net fault) }
 {
+    let crew = crew_of(rt, workers);
     let mut left = limit;
-    let mut share = SHARE;
+    let mut time = Duration::from_millis(SHIFT);
     while left > 0 {
-        let (next, fewer) = run_turn(rt, alloc, net, workers, share, left)?;
+        let (next, fewer) = run_turn(rt, alloc, net, crew, gate, time, left)?;
         net = next;
         left = fewer;
-        share = share.saturating_mul(4);
+        time = time.saturating_mul(4);
     }
     let settled = how_settled(&net);
     Ok((net, settled))
 }
 
-/// The owner does events while they are short, and then a crew does a share of them. Answers how many may be done yet, of so many that
+/// So many workers, but no more than there are processors that the process may use, and two at least.
+fn crew_of<R: Threads>(rt: &R, workers: usize) -> usize
+    requires workers { (0 < workers) × (workers ≤ 64) }
+    ensures workers { (0 < result) × (result ≤ 64) }
+{
+    match available_parallelism(rt) {
+        Ok(count) => workers.min(count.get().max(2)),
+        Err(_) => workers,
+    }
+}
+
+/// The owner does events while they are short, and then a crew does some for so long. Answers how many may be done yet, of so many that
 /// might be: none where nothing may happen any more.
-fn run_turn<W: Runs + Send + Sync, R: Threads + Wait + Sync>(
+fn run_turn<W: Runs + Send + Sync, R: Threads + Wait + Clock + CpuClock + Sync, G: Gate + Sync>(
     rt: &R,
     alloc: Global,
     mut net: Net<W>,
     workers: usize,
-    share: u64,
+    gate: &G,
+    time: Duration,
     limit: u64,
 ) -> Result<(Net<W>, u64), RunFault<W>>
     requires workers { (0 < workers) × (workers ≤ 64) }
@@ -136,10 +170,9 @@ fn run_turn<W: Runs + Send + Sync, R: Threads + Wait + Sync>(
     if left == 0 {
         return Ok((net, 0));
     }
-    let most = share.max(1).min(left);
-    let (net, settled) = run_workers(rt, alloc, net, workers, &OpenGate, most)?;
-    match settled {
-        Settled::Quiet => Ok((net, 0)),
-        Settled::Stopped => Ok((net, left - most)),
-    }
+    let shift = Shift {
+        events: EVENTS,
+        time,
+    };
+    run_shift(rt, alloc, net, workers, gate, shift, left)
 }

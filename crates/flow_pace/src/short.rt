@@ -1,23 +1,21 @@
 //! The owner of a network does its events while they are short.
 ghost use Rattle.std.specs.Prelude.{◌≡◌, ◌≢◌, ◌<◌, Err, IfOk};
-ghost use Rattle.std.specs.Thread.{IsSync};
 ghost use Rattle.flow_net.specs.Net.{NetNeedsId};
 ghost use Rattle.flow_net.specs.declared.fault.NetFault.TheVariants.{NotEnabled, Ids};
 ghost use Rattle.flow_crew.specs.Runs.{RunsOn};
 
 use crate::pace::{Pace, SHORT, SHORT_IN_LANES};
-use crate::ticks::Ticks;
+use crate::used::used;
 use flow_net::{Net, NetFault, Settled};
 use flow_value::Runs;
 use std::alloc::Global;
-use std::sync::Wait;
-use std::thread::{Threads, join_mut};
+use std::time::CpuClock;
 
-/// Does events, at most so many, until they take long or nothing may happen any more, while a second thread counts the time. Answers how
-/// many may be done yet: none in the second case.
+/// Does events, at most so many, until they take long or nothing may happen any more. Answers how many may be done yet: none in the second
+/// case.
 ///
-/// Where no thread can be had, no time passes, and it does all events.
-pub(crate) fn settle_while_short<W: Runs, R: Threads + Wait + Sync>(
+/// They take long by the processor time that they use. Where that can't be read, it does all events.
+pub(crate) fn settle_while_short<W: Runs, R: CpuClock>(
     rt: &R,
     alloc: Global,
     net: &mut Net<W>,
@@ -29,38 +27,7 @@ pub(crate) fn settle_while_short<W: Runs, R: Threads + Wait + Sync>(
     ensures used_up { result ≡ Err Ids → NetNeedsId W.meaning net.new }
     ensures never { result ≢ Err NotEnabled }
 {
-    let ticks = Ticks::new();
-    let mut clock = ||
-        requires { IsSync R.row }
-    { ticks.count_on(rt) };
-    let mut owner = || -> Result<u64, NetFault>
-        requires { 0 < limit }
-        ensures { RunsOn net.entry.now net.exit.now × IfOk result (λ left. left < limit)
-            × (result ≡ Err Ids → NetNeedsId W.meaning net.exit.now) × (result ≢ Err NotEnabled) }
-    {
-        let left = settle_by(alloc, net, &ticks, limit);
-        ticks.end();
-        left
-    };
-    let (_, left) = join_mut(rt, &mut clock, &mut owner);
-    left
-}
-
-/// Does events, at most so many, until they take long by these milliseconds or nothing may happen any more. Answers how many may be done
-/// yet: none in the second case.
-fn settle_by<W: Runs>(
-    alloc: Global,
-    net: &mut Net<W>,
-    ticks: &Ticks,
-    limit: u64,
-) -> Result<u64, NetFault>
-    requires some { 0 < limit }
-    ensures runs_on { RunsOn net.old net.new }
-    ensures fewer { IfOk result (λ left. left < limit) }
-    ensures used_up { result ≡ Err Ids → NetNeedsId W.meaning net.new }
-    ensures never { result ≢ Err NotEnabled }
-{
-    let mut pace = Pace::new(ticks.now(), short_in(net));
+    let mut pace = Pace::new(used(rt), short_in(net));
     let mut left = limit;
     while left > 0 {
         let share = pace.share().min(left);
@@ -69,7 +36,7 @@ fn settle_by<W: Runs>(
             Ok(Settled::Quiet) => return Ok(0),
             Err(fault) => return Err(fault),
         }
-        if pace.is_long(share, ticks.now()) {
+        if pace.is_long(share, used(rt)) {
             break;
         }
     }

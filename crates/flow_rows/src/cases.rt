@@ -9,10 +9,11 @@ use std::process::Abort;
 use std::sync::Wait;
 use std::test::Fail;
 use std::thread::Threads;
+use std::time::{Clock, CpuClock};
 
 /// Whether a run of a case's texts by so many workers comes to what is due.
 fn is_met(
-    rt: &(impl Threads + Wait + Sync),
+    rt: &(impl Threads + Wait + Clock + CpuClock + Sync),
     alloc: Global,
     case: &Case,
     workers: u32,
@@ -26,7 +27,7 @@ fn is_met(
 
 /// Tests each case of a table.
 fn check_each(
-    rt: &(impl Abort + Print + Threads + Wait + Sync),
+    rt: &(impl Abort + Print + Threads + Wait + Clock + CpuClock + Sync),
     alloc: Global,
     table: &str,
     workers: u32,
@@ -42,7 +43,7 @@ fn check_each(
 
 /// Tests each case of all tables.
 fn check_all(
-    rt: &(impl Abort + Print + Threads + Wait + Sync),
+    rt: &(impl Abort + Print + Threads + Wait + Clock + CpuClock + Sync),
     alloc: Global,
     workers: u32,
 ) -> Result<(), Fail>

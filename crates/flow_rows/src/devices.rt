@@ -11,6 +11,7 @@ use std::io::{Read, Write};
 use std::sync::Wait;
 use std::test::Fail;
 use std::thread::Threads;
+use std::time::{Clock, CpuClock};
 
 /// Gives one byte a call, and fails at the call with this number.
 #[derive(Drop)]
@@ -80,7 +81,7 @@ fn a_reader_that_fails_at_any_call_is_told(rt: HostRuntime) -> Result<(), Fail> 
 }
 
 fn run_to(
-    rt: &(impl Threads + Wait + Sync),
+    rt: &(impl Threads + Wait + Clock + CpuClock + Sync),
     alloc: Global,
     writer: &mut FailingWriter,
 ) -> Result<Ran, RunRefusal> {

@@ -8,6 +8,7 @@ use std::process::Abort;
 use std::sync::Wait;
 use std::test::Fail;
 use std::thread::Threads;
+use std::time::{Clock, CpuClock};
 
 /// In each line a function, a text that it is applied to, as a record has it, and what is due: the line of an action's
 /// record, or that of a fault.
@@ -82,7 +83,7 @@ const TRANSFORMS: &str = r#"
 
 /// The network that is drawn so, over one text.
 fn told_of(
-    rt: &(impl Abort + Threads + Wait + Sync),
+    rt: &(impl Abort + Threads + Wait + Clock + CpuClock + Sync),
     alloc: Global,
     drawn: &str,
     given: &str,
@@ -95,7 +96,7 @@ fn told_of(
 /// Runs an input and a block with the function of each row over the row's text, and tests that what is due comes of it.
 /// The block is drawn as this kind, and others may follow it.
 fn check_rows(
-    rt: &(impl Abort + Print + Threads + Wait + Sync),
+    rt: &(impl Abort + Print + Threads + Wait + Clock + CpuClock + Sync),
     alloc: Global,
     table: &str,
     kind: &str,

@@ -9,6 +9,7 @@ use std::process::Abort;
 use std::sync::Wait;
 use std::test::Fail;
 use std::thread::Threads;
+use std::time::{Clock, CpuClock};
 
 /// A whole text, and the line that it is refused with.
 const WHOLE: &[(&[u8], &str)] = &[
@@ -256,7 +257,7 @@ const READ: &[(&[u8], &str, &[&str])] = &[
 
 // Tests that a network is refused with this line.
 fn refuses(
-    rt: &(impl Abort + Print + Threads + Wait + Sync),
+    rt: &(impl Abort + Print + Threads + Wait + Clock + CpuClock + Sync),
     alloc: Global,
     text: &[u8],
     line: &str,
@@ -290,7 +291,7 @@ fn written(alloc: Global, lines: &str) -> Result<Vec<u8>, AllocError> {
 
 /// Tests each row of a table, in which the line of a refusal stands before what makes a text.
 fn check_rows(
-    rt: &(impl Abort + Print + Threads + Wait + Sync),
+    rt: &(impl Abort + Print + Threads + Wait + Clock + CpuClock + Sync),
     alloc: Global,
     table: &str,
     has_links: bool,

@@ -14,6 +14,7 @@ use std::process::Abort;
 use std::sync::Wait;
 use std::test::Fail;
 use std::thread::Threads;
+use std::time::{Clock, CpuClock};
 
 /// A situation: its name, the network, drawn, and the records, the most events, and what is due: the status and the
 /// report.
@@ -205,7 +206,7 @@ const RUNS: &[Case] = &[
 /// Tests that so many workers come to each report that is due. Where a run faults or is stopped, several workers may come less or more far
 /// before, so of them it is asked of runs that go through.
 fn each_is_reported(
-    rt: &(impl Abort + Print + Threads + Wait + Sync),
+    rt: &(impl Abort + Print + Threads + Wait + Clock + CpuClock + Sync),
     alloc: Global,
     workers: u32,
 ) -> Result<(), Fail>

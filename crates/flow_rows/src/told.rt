@@ -1,14 +1,16 @@
 //! Runs of texts, and what they tell.
 ghost use Rattle.std.specs.Prelude.{◌≤◌};
 
+use flow_board::OpenGate;
 use flow_net::Net;
-use flow_run::{Ran, RunRefusal, run, run_and_keep, status, write_refusal};
+use flow_run::{Ran, RunRefusal, Start, run, run_and_keep, run_through, status, write_refusal};
 use flow_value::Steps;
 use std::alloc::Global;
 use std::io::{Read, Write};
 use std::sync::Wait;
 use std::test::Fail;
 use std::thread::Threads;
+use std::time::{Clock, CpuClock};
 
 /// What a run told: its status, and its report or the line of its refusal.
 #[derive(Drop)]
@@ -19,7 +21,7 @@ pub(crate) struct Told {
 
 /// Runs a network over records with one worker, so that all that is told of it is the same each time.
 pub(crate) fn told_by<R: Read + Drop>(
-    rt: &(impl Threads + Wait + Sync),
+    rt: &(impl Threads + Wait + Clock + CpuClock + Sync),
     alloc: Global,
     network: &[u8],
     records: R,
@@ -28,9 +30,9 @@ pub(crate) fn told_by<R: Read + Drop>(
     told_with(rt, alloc, network, records, 1, limit)
 }
 
-/// Runs a network over records. Tests that nothing is written before a refusal.
+/// Runs a network over records: several workers are a crew from the first event on. Tests that nothing is written before a refusal.
 pub(crate) fn told_with<R: Read + Drop>(
-    rt: &(impl Threads + Wait + Sync),
+    rt: &(impl Threads + Wait + Clock + CpuClock + Sync),
     alloc: Global,
     network: &[u8],
     records: R,
@@ -40,13 +42,34 @@ pub(crate) fn told_with<R: Read + Drop>(
     requires { (1 ≤ workers) × (workers ≤ 64) }
 {
     let mut text = Vec::new(alloc);
-    let outcome = ran(rt, alloc, network, records, &mut text, workers, limit);
+    let outcome = crewed(rt, alloc, network, records, &mut text, workers, limit);
     tell(&outcome, text)
+}
+
+/// Runs a network over records by a crew, if there are several workers.
+fn crewed<R: Read + Drop, W: Write>(
+    rt: &(impl Threads + Wait + Clock + CpuClock + Sync),
+    alloc: Global,
+    network: &[u8],
+    records: R,
+    text: &mut W,
+    workers: u32,
+    limit: u64,
+) -> Result<Ran, RunRefusal>
+    requires { (1 ≤ workers) × (workers ≤ 64) }
+{
+    let (gate, start) = (OpenGate, Start::AtOnce);
+    match run_through(
+        rt, alloc, network, records, text, workers, &gate, start, limit,
+    ) {
+        Ok((ran, _)) => Ok(ran),
+        Err(refusal) => Err(refusal),
+    }
 }
 
 /// Runs a network over records. What `run` promises is not for the tests, which look at what comes of it.
 pub(crate) fn ran<R: Read + Drop, W: Write>(
-    rt: &(impl Threads + Wait + Sync),
+    rt: &(impl Threads + Wait + Clock + CpuClock + Sync),
     alloc: Global,
     network: &[u8],
     records: R,
@@ -62,7 +85,7 @@ pub(crate) fn ran<R: Read + Drop, W: Write>(
 /// Runs a network over records, and keeps it. What `run_and_keep` promises is not for the tests, which look at what comes of
 /// it.
 pub(crate) fn kept<R: Read + Drop, W: Write>(
-    rt: &(impl Threads + Wait + Sync),
+    rt: &(impl Threads + Wait + Clock + CpuClock + Sync),
     alloc: Global,
     network: &[u8],
     records: R,

@@ -1,5 +1,5 @@
 -- What the records post is what the inputs of a network are given.
-use Rattle.std.proofs.Common.{◌≡◌, ◌↔◌, ℕ, zero, suc, ◌+◌, Bool, true, false, cond, List, [], ◌∷◌, ◌++◌, length, map, replicate, IfSome, Option, count_by, Result, Ok, Err, refl, ap, sym, subst, inl, inr, ◌∙◌, arith}
+use Rattle.std.proofs.Common.{◌≡◌, ◌↔◌, ℕ, zero, suc, ◌+◌, Bool, true, false, cond, List, [], ◌∷◌, ◌++◌, length, map, replicate, IfSome, Option, count_by, refl, ap, sym, subst, inl, inr, ◌∙◌, arith}
 use Rattle.std.proofs.lemmas.Bool.{and_from}
 use Rattle.std.proofs.lemmas.List.{length-map, length-replicate}
 use Rattle.std.proofs.lemmas.List.Sums.{sum_by-cons}
@@ -38,7 +38,6 @@ use Rattle.flow_run.specs.Left.{IsLeft as IsLeftIn}
 use Rattle.flow_run.specs.Ran.{Begins, HasEnded, HasRun, HasUnreadRecords, HasUnwrittenReport, IsPosted, IsReported, IsReportedOf, IsUnbegun, IsUnreported}
 use Rattle.flow_run.specs.Refusal.{refusal_of, told_as}
 use Rattle.flow_run.specs.declared.outcome.Ran.{Ran}
-use Rattle.flow_run.specs.declared.outcome.RunRefusal.{RunRefusal}
 use Rattle.flow_record_text.specs.Records.{PostAll, input_names, posted_endings, posted_values}
 
 names_more : (b : Bool) (name : List ℕ) (rest : List (List ℕ)) → length (cond b (name ∷ []) [] ++ rest) ≡ cond {A = ℕ} b 1 0 + length rest

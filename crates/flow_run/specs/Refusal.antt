@@ -1,5 +1,5 @@
 -- The line that tells of a refusal: its number, its name and its place.
-use Rattle.std.specs.Prelude.{◌≡◌, List, ℕ, [], ◌∷◌, ◌++◌, codes}
+use Rattle.std.specs.Prelude.{List, ℕ, [], ◌∷◌, ◌++◌, codes}
 use Rattle.flow_crew.specs.declared.run.RunFault.{RunFault}
 use Rattle.flow_crew.specs.declared.run.RunFault.TheVariants as run
 use Rattle.flow_fault_text.specs.FaultText.{fault_text}

@@ -6,8 +6,9 @@ mod pipeline;
 mod refusal;
 mod split;
 
+pub use flow_pace::Start;
 pub use flow_text::{TextFault, TextPlace, TextRefusal};
 pub use outcome::{Ran, RunRefusal, status};
-pub use pipeline::{run, run_and_keep};
+pub use pipeline::{run, run_and_keep, run_through};
 pub use refusal::write_refusal;
 pub use split::split_input;

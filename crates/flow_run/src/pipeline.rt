@@ -7,22 +7,24 @@ ghost use Rattle.flow_run.specs.Ran.{Begins, IsReported, IsReportedOf, IsUnbegun
 ghost use Rattle.flow_run.specs.Refusal.{told_as};
 
 use crate::outcome::{Ran, RunRefusal};
+use flow_board::{Gate, OpenGate};
 use flow_crew::RunFault;
 use flow_net::Net;
-use flow_pace::run_paced;
+use flow_pace::{Start, run_paced};
 use flow_text::{is_complete, read_plan, read_records, write_report};
 use flow_value::Steps;
 use std::alloc::Global;
 use std::io::{Read, Write};
 use std::sync::Wait;
 use std::thread::Threads;
+use std::time::{Clock, CpuClock};
 
 /// Reads a network, runs it over the records until it is quiet or `limit` events are done, and writes its report.
 ///
 /// The writer should gather what is written, since the report comes in many small pieces. One worker does the events one
 /// after another. With several, they do so by turns: which lawful run it is that they come to is open. While events are
 /// short, the thread that calls it does them all. The others end with the call.
-pub fn run<C: Threads + Wait + Sync, R: Read + Drop, W: Write>(
+pub fn run<C: Threads + Wait + Clock + CpuClock + Sync, R: Read + Drop, W: Write>(
     rt: &C,
     alloc: Global,
     text: &[u8],
@@ -47,7 +49,7 @@ pub fn run<C: Threads + Wait + Sync, R: Read + Drop, W: Write>(
 ///
 /// So a caller may look at the network after its report. Where the process is about to end, it may forget the network:
 /// to let it go gives back the memory of its values one by one.
-pub fn run_and_keep<C: Threads + Wait + Sync, R: Read + Drop, W: Write>(
+pub fn run_and_keep<C: Threads + Wait + Clock + CpuClock + Sync, R: Read + Drop, W: Write>(
     rt: &C,
     alloc: Global,
     text: &[u8],
@@ -62,8 +64,46 @@ pub fn run_and_keep<C: Threads + Wait + Sync, R: Read + Drop, W: Write>(
     ensures refused { IfErr result (IsUnreported text.now (R.remaining reader) workers limit) }
     ensures left { IfErr result (λ refusal. IsLeft refusal (W.contents writer.old) (W.contents writer.new)) }
 {
+    run_through(
+        rt,
+        alloc,
+        text,
+        reader,
+        writer,
+        workers,
+        &OpenGate,
+        Start::WhileLong,
+        limit,
+    )
+}
+
+/// Does what [`run_and_keep`] does, where each job that a crew does goes through this gate, and the crew begins as it is told.
+///
+/// So a test may hold jobs up, and have short events go through a crew.
+pub fn run_through<
+    C: Threads + Wait + Clock + CpuClock + Sync,
+    R: Read + Drop,
+    W: Write,
+    G: Gate + Sync,
+>(
+    rt: &C,
+    alloc: Global,
+    text: &[u8],
+    reader: R,
+    writer: &mut W,
+    workers: u32,
+    gate: &G,
+    start: Start,
+    limit: u64,
+) -> Result<(Ran, Net<Steps>), RunRefusal>
+    requires { (1 ≤ workers) × (workers ≤ 64) }
+    ensures reported { IfOk result (λ kept. IsReportedOf text.now (R.remaining reader) workers limit
+        (Appends (W.contents writer.old) (W.contents writer.new)) (layout_in kept.1) (parts_of kept.1) kept.0) }
+    ensures refused { IfErr result (IsUnreported text.now (R.remaining reader) workers limit) }
+    ensures left { IfErr result (λ refusal. IsLeft refusal (W.contents writer.old) (W.contents writer.new)) }
+{
     let net = begin(alloc, text, reader)?;
-    let (net, settled) = match run_paced(rt, alloc, net, workers as usize, limit) {
+    let (net, settled) = match run_paced(rt, alloc, net, workers as usize, gate, start, limit) {
         Ok(ran) => ran,
         Err(fault) => return Err(refusal_of_run(&fault)),
     };

@@ -10,12 +10,13 @@ use std::alloc::Global;
 use std::process::Abort;
 use std::sync::Wait;
 use std::thread::Threads;
+use std::time::Clock;
 
 /// More rounds than any of these networks needs.
 const ROUNDS: u32 = 1_000;
 
 /// Turns the tasks in rounds of at most so many events, until one that did none, and tells how many events were done.
-fn turn_by_crew<R: Abort + Threads + Wait + Sync, G: Gate + Sync>(
+fn turn_by_crew<R: Abort + Threads + Wait + Clock + Sync, G: Gate + Sync>(
     rt: &R,
     alloc: Global,
     board: &Board<Steps>,
@@ -45,7 +46,7 @@ fn turn_by_crew<R: Abort + Threads + Wait + Sync, G: Gate + Sync>(
 
 /// The network, turned by so many workers until no task moves, in rounds of at most so many events, and gathered; and how many events
 /// that took.
-pub(crate) fn turned_by_crew<R: Abort + Threads + Wait + Sync, G: Gate + Sync>(
+pub(crate) fn turned_by_crew<R: Abort + Threads + Wait + Clock + Sync, G: Gate + Sync>(
     rt: &R,
     alloc: Global,
     net: Net<Steps>,

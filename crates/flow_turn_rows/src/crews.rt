@@ -14,10 +14,11 @@ use std::alloc::Global;
 use std::process::Abort;
 use std::sync::Wait;
 use std::thread::Threads;
+use std::time::Clock;
 
 /// The network after so many workers ran it to its end.
 fn ran(
-    rt: &(impl Abort + Threads + Wait + Sync),
+    rt: &(impl Abort + Threads + Wait + Clock + Sync),
     alloc: Global,
     net: Net<Steps>,
     workers: usize,
@@ -31,7 +32,12 @@ fn ran(
 }
 
 /// Asserts that each case of a table comes to its end by so many workers.
-fn each_ends(rt: &(impl Abort + Threads + Wait + Sync), alloc: Global, table: &str, workers: usize)
+fn each_ends(
+    rt: &(impl Abort + Threads + Wait + Clock + Sync),
+    alloc: Global,
+    table: &str,
+    workers: usize,
+)
     requires workers { (0 < workers) × (workers ≤ 64) }
 {
     for lines in table.trim().split("\n\n") {
@@ -42,7 +48,7 @@ fn each_ends(rt: &(impl Abort + Threads + Wait + Sync), alloc: Global, table: &s
 }
 
 /// Asserts that all cases come to their ends by so many workers.
-fn all_end(rt: &(impl Abort + Threads + Wait + Sync), alloc: Global, workers: usize)
+fn all_end(rt: &(impl Abort + Threads + Wait + Clock + Sync), alloc: Global, workers: usize)
     requires workers { (0 < workers) × (workers ≤ 64) }
 {
     for table in TABLES {

@@ -12,6 +12,8 @@ mod crews;
 #[cfg(test)]
 mod ends;
 #[cfg(test)]
+mod exits;
+#[cfg(test)]
 mod halves;
 #[cfg(test)]
 mod journals;

@@ -12,12 +12,13 @@ use std::alloc::Global;
 use std::process::Abort;
 use std::sync::Wait;
 use std::thread::Threads;
+use std::time::Clock;
 
 /// How many events the run of three numbers has in all.
 const ALL: u64 = 69;
 
 /// The network, run by so many workers for at most so many events, and how far it came.
-fn run<R: Abort + Threads + Wait + Sync>(
+fn run<R: Abort + Threads + Wait + Clock + Sync>(
     rt: &R,
     alloc: Global,
     workers: usize,
@@ -42,7 +43,7 @@ fn has_recorded(rt: &impl Abort, net: &Net<Steps>, state: State) {
 }
 
 /// Asserts that so many workers do as many events as there are.
-fn ends<R: Abort + Threads + Wait + Sync>(rt: &R, alloc: Global, workers: usize)
+fn ends<R: Abort + Threads + Wait + Clock + Sync>(rt: &R, alloc: Global, workers: usize)
     requires workers { (0 < workers) × (workers ≤ 64) }
 {
     let (net, settled) = run(rt, alloc, workers, ALL);
@@ -51,7 +52,7 @@ fn ends<R: Abort + Threads + Wait + Sync>(rt: &R, alloc: Global, workers: usize)
 }
 
 /// Asserts that so many workers stop where one event less may be done: it is that by which the action stops.
-fn stops<R: Abort + Threads + Wait + Sync>(rt: &R, alloc: Global, workers: usize)
+fn stops<R: Abort + Threads + Wait + Clock + Sync>(rt: &R, alloc: Global, workers: usize)
     requires workers { (0 < workers) × (workers ≤ 64) }
 {
     let (net, settled) = run(rt, alloc, workers, ALL - 1);

@@ -1,22 +1,34 @@
 //! Two workers do jobs at one time: a gate lets the first job of a block go on only once the second has begun, and that one only once the
-//! first result is recorded.
+//! first result is recorded. And where the events of a network are long, its run comes to do jobs at one time.
+ghost use Rattle.std.specs.Prelude.{◌≤◌, ◌<◌};
+
 use crate::crew::turned_by_crew;
 use crate::numbers::{FOUR_LANES, has_recorded, with_numbers};
 use flow_board::Gate;
 use flow_crew::run_workers;
 use flow_net::{Net, Settled};
+use flow_pace::{Start, run_paced};
 use flow_value::Steps;
 use std::alloc::Global;
 use std::process::Abort;
 use std::sync::Wait;
-use std::sync::atomic::{AtomicBool, Ordering};
+use std::sync::atomic::{AtomicBool, AtomicU32, Ordering};
 use std::thread::{Threads, yield_now};
+use std::time::{Clock, CpuClock};
 
 /// How often a job waits at most.
 const TURNS: u32 = 1_000_000;
 
 /// How many numbers are posted.
 const POSTED: u32 = 100;
+
+/// A broadcast of numbers to two actions. One copies each number ten thousand times, in two lanes, and records nothing; the other records
+/// them.
+const COPYING: &str =
+    "in* buffer, both broadcast, slow action(int+repeat 1000+repeat 10+repeat 0) lanes 2, out action(int), in => both, both => slow, both => out";
+
+/// How many numbers it gets. The owner does thousands of events between two looks at the time, so with few it would do them all.
+const COPIED: u32 = 1_000;
 
 /// The numbers of the blocks between which the gate stands.
 const TRANSFORM: usize = 1;
@@ -111,4 +123,57 @@ fn a_round_runs_jobs_at_one_time(rt: HostRuntime) {
     assert!(rt; gate.has_met());
     assert!(rt; matches!(net.settle(alloc, u64::MAX), Ok(Settled::Quiet)));
     has_recorded(&rt, &net, 2, 101);
+}
+
+/// A gate at which a job goes on only once two have been there at one time.
+#[derive(Drop)]
+struct Pair {
+    inside: AtomicU32,
+    met: AtomicBool,
+}
+
+impl Gate for Pair {
+    fn before(&self, _block: usize, _ticket: u64) {
+        if self.inside.fetch_add(1, Ordering::SeqCst) > 0 {
+            self.met.store(true, Ordering::SeqCst);
+        }
+        for _ in 0..TURNS {
+            if self.met.load(Ordering::SeqCst) {
+                return;
+            }
+            yield_now();
+        }
+    }
+
+    fn after(&self, _block: usize, _ticket: u64) {
+        self.inside.fetch_sub(1, Ordering::SeqCst);
+    }
+}
+
+/// Asserts that a run whose events are long does two jobs at one time.
+fn jobs_overlap<R: Abort + Threads + Wait + Clock + CpuClock + Sync>(
+    rt: &R,
+    alloc: Global,
+    workers: usize,
+)
+    requires workers { (0 < workers) × (workers ≤ 64) }
+{
+    let gate = Pair {
+        inside: AtomicU32::new(0),
+        met: AtomicBool::new(false),
+    };
+    let net = with_numbers(rt, alloc, COPYING, COPIED);
+    let Ok((net, settled)) = run_paced(rt, alloc, net, workers, &gate, Start::WhileLong, u64::MAX)
+    else {
+        panic!(rt; "out of memory");
+    };
+    assert!(rt; gate.met.load(Ordering::SeqCst));
+    assert!(rt; settled == Settled::Quiet);
+    has_recorded(rt, &net, 1, 1_000);
+}
+
+#[test]
+fn long_jobs_of_a_run_overlap(rt: HostRuntime) {
+    jobs_overlap(&rt, rt.alloc(), 2);
+    jobs_overlap(&rt, rt.alloc(), 8);
 }

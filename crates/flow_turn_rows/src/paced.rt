@@ -3,14 +3,16 @@ ghost use Rattle.std.specs.Prelude.{◌≤◌, ◌<◌};
 
 use crate::networks::settle_singly;
 use crate::numbers::{are_done, has_recorded, with_numbers};
+use flow_board::OpenGate;
 use flow_front::record_of;
 use flow_net::{Net, Settled};
-use flow_pace::run_paced;
+use flow_pace::{Start, run_paced};
 use flow_value::Steps;
 use std::alloc::Global;
 use std::process::Abort;
 use std::sync::Wait;
 use std::thread::Threads;
+use std::time::{Clock, CpuClock};
 
 /// How many numbers are posted.
 const COUNT: u32 = 100;
@@ -26,7 +28,7 @@ fn started(rt: &impl Abort, alloc: Global) -> Net<Steps> {
 }
 
 /// The network, run by so many workers for at most so many events, and how far it came.
-fn run<R: Abort + Threads + Wait + Sync>(
+fn run<R: Abort + Threads + Wait + Clock + CpuClock + Sync>(
     rt: &R,
     alloc: Global,
     workers: usize,
@@ -34,14 +36,20 @@ fn run<R: Abort + Threads + Wait + Sync>(
 ) -> (Net<Steps>, Settled)
     requires workers { (0 < workers) × (workers ≤ 64) }
 {
-    let Ok(ran) = run_paced(rt, alloc, started(rt, alloc), workers, limit) else {
+    let net = started(rt, alloc);
+    let Ok(ran) = run_paced(rt, alloc, net, workers, &OpenGate, Start::WhileLong, limit) else {
         panic!(rt; "out of memory");
     };
     ran
 }
 
 /// Asserts that so many workers do all events within as many as there are, and are stopped where one less may be done.
-fn ends_within<R: Abort + Threads + Wait + Sync>(rt: &R, alloc: Global, workers: usize, all: u64)
+fn ends_within<R: Abort + Threads + Wait + Clock + CpuClock + Sync>(
+    rt: &R,
+    alloc: Global,
+    workers: usize,
+    all: u64,
+)
     requires workers { (0 < workers) × (workers ≤ 64) }
 {
     let (net, settled) = run(rt, alloc, workers, all);

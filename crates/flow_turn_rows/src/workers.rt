@@ -12,6 +12,7 @@ use std::alloc::Global;
 use std::process::Abort;
 use std::sync::Wait;
 use std::thread::Threads;
+use std::time::Clock;
 
 /// How many numbers are posted.
 const POSTED: u32 = 40;
@@ -26,7 +27,7 @@ fn started(rt: &impl Abort, alloc: Global) -> Net<Steps> {
 }
 
 /// The network, turned by so many workers in rounds of at most so many events, and how many events that took.
-fn turned<R: Abort + Threads + Wait + Sync>(
+fn turned<R: Abort + Threads + Wait + Clock + Sync>(
     rt: &R,
     alloc: Global,
     workers: usize,
@@ -53,7 +54,7 @@ fn record<'a>(rt: &impl Abort, net: &'a Net<Steps>) -> &'a [Value] {
 }
 
 /// Asserts that so many workers bring the network to the record that settling gives it.
-fn records_the_same<R: Abort + Threads + Wait + Sync>(
+fn records_the_same<R: Abort + Threads + Wait + Clock + Sync>(
     rt: &R,
     alloc: Global,
     workers: usize,

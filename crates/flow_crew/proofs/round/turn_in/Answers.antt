@@ -12,11 +12,7 @@ put_in-requires-clause-queue g c =
     (c.in-Ok.ensures.1, omega (arith, all_length g.J.Round.all c.args.tasks.items c.requires.all))
 
 pub crew-pass-requires-clause-queue : goal.crew-pass-requires-clause-queue
-crew-pass-requires-clause-queue g c κs within =
-    let cap = c.in-Ok.ensures.0 in
-    let count = c.len-count.ensures in
-    let len = c.args.tasks.ok.0 in
-    (c.put_in.ensures.queue, omega (arith, all_length g.J.Round.all c.args.tasks.items c.requires.all))
+crew-pass-requires-clause-queue g c κs within = c.put_in.ensures.queue
 
 pub take_out-requires-clause-room : goal.take_out-requires-clause-room
 take_out-requires-clause-room g c =

@@ -1,31 +1,12 @@
-use Rattle.std.proofs.lemmas.Result.{err_from_is_err_and}
 use Rattle.flow_core.proofs.InputsChange.{same_where_none_posted}
 use Rattle.flow_net.specs.Net.{parts_of}
-use Rattle.flow_crew.proofs.RunsOn.{left_further, net_is_lawful, runs_further, runs_itself}
+use Rattle.flow_crew.proofs.RunsOn.{net_is_lawful}
 use Rattle.flow_crew.proofs.run.run_workers.Goals as goal
-
-pub loop-left-init : goal.loop-left-init
-loop-left-init g c =
-    runs_itself c.args.net
-
-pub returns-in_err-next-clause-left : goal.returns-in_err-next-clause-left
-returns-in_err-next-clause-left g c =
-    let p = err_from_is_err_and c.from_residual.result c.from_residual.ensures.1 in
-    rw (p.1, p.2)
-    (left_further g.W.Runs.meaning c.args.net c.loop-left.net c.in_err-next.field-0.0 c.loop-left.invariant c.in_err-next.ensures.left)
-
-pub loop-left-preserved : goal.loop-left-preserved
-loop-left-preserved g c =
-    runs_further c.args.net c.loop-left.net c.in_ok-next.next c.loop-left.invariant c.in_ok-next.ensures.runs_on
-
-pub loop-left-preserved-then-done-eq0 : goal.loop-left-preserved-then-done-eq0
-loop-left-preserved-then-done-eq0 g c =
-    runs_further c.args.net c.loop-left.net c.in_ok-next.next c.loop-left.invariant c.in_ok-next.ensures.runs_on
 
 pub returns-clause-lawful : goal.returns-clause-lawful
 returns-clause-lawful g c =
-    net_is_lawful g.W.Runs.meaning c.loop-left.net c.loop-left.net.kept
+    net_is_lawful g.W.Runs.meaning c.in_ok-net.net c.in_ok-net.net.kept
 
 pub returns-clause-same_inputs : goal.returns-clause-same_inputs
 returns-clause-same_inputs g c =
-    same_where_none_posted (parts_of c.args.net) (parts_of c.loop-left.net) c.loop-left.invariant.inputs_stay
+    same_where_none_posted (parts_of c.args.net) (parts_of c.in_ok-net.net) c.in_ok-net.ensures.runs_on.inputs_stay

@@ -1,5 +1,5 @@
-use Rattle.std.proofs.Common.{Err, ap, ◌∙◌}
-use Rattle.std.proofs.lemmas.Result.{err_from_is_err_and}
+use Rattle.std.proofs.Common.{Err, ap, arith, ◌∙◌}
+use Rattle.flow_crew.proofs.ComesBack.{if_err, if_ok}
 use Rattle.flow_crew.proofs.RunsOn.{left_further, net_is_lawful, runs_further}
 use Rattle.flow_pace.proofs.run.run_turn.Goals as goal
 
@@ -14,17 +14,17 @@ returns-in-Err-Memory-clause-left g c =
     let net = c.settle_while_short.new.net in
     (c.settle_while_short.ensures.runs_on, net_is_lawful g.W.Runs.meaning net net.kept)
 
-pub returns-in_err-net-clause-left : goal.returns-in_err-net-clause-left
-returns-in_err-net-clause-left g c =
-    let p = err_from_is_err_and c.from_residual.result c.from_residual.ensures.1 in
-    rw (p.1, p.2)
-    (left_further g.W.Runs.meaning c.args.net c.settle_while_short.new.net c.in_err-net.field-0.0 c.settle_while_short.ensures.runs_on
-    c.in_err-net.ensures.left)
+pub returns-clause-runs_on : goal.returns-clause-runs_on
+returns-clause-runs_on g c =
+    if_ok _ _ (λ ran is. runs_further c.args.net c.settle_while_short.new.net ran.0 c.settle_while_short.ensures.runs_on is) c.run_shift.result
+    c.run_shift.ensures.runs_on
 
-pub returns-in-Quiet-clause-runs_on : goal.returns-in-Quiet-clause-runs_on
-returns-in-Quiet-clause-runs_on g c =
-    runs_further c.args.net c.settle_while_short.new.net c.in_ok-net.net c.settle_while_short.ensures.runs_on c.in_ok-net.ensures.runs_on
+pub returns-clause-fewer : goal.returns-clause-fewer
+returns-clause-fewer g c =
+    let low = c.in-Ok.ensures.fewer in
+    if_ok _ _ (λ ran is. let some = is (omega arith) in omega (arith, some, low)) c.run_shift.result c.run_shift.ensures.fewer
 
-pub returns-in-Stopped-clause-runs_on : goal.returns-in-Stopped-clause-runs_on
-returns-in-Stopped-clause-runs_on g c =
-    runs_further c.args.net c.settle_while_short.new.net c.in_ok-net.net c.settle_while_short.ensures.runs_on c.in_ok-net.ensures.runs_on
+pub returns-clause-left : goal.returns-clause-left
+returns-clause-left g c =
+    if_err _ _ (λ fault is. left_further g.W.Runs.meaning c.args.net c.settle_while_short.new.net fault c.settle_while_short.ensures.runs_on is)
+    c.run_shift.result c.run_shift.ensures.left

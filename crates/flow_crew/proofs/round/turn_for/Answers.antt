@@ -1,6 +1,6 @@
 use Rattle.flow_crew.proofs.ComesBack.{comes_back, if_err, if_ok}
 use Rattle.flow_crew.proofs.Journals.{all_enter}
-use Rattle.flow_crew.proofs.round.turn_round.Goals as goal
+use Rattle.flow_crew.proofs.round.turn_for.Goals as goal
 
 pub turn_in-requires-clause-in_round : goal.turn_in-requires-clause-in_round
 turn_in-requires-clause-in_round g c κs within = all_enter c.args.board.now c.args.tasks.items c.requires.of

@@ -1,6 +1,6 @@
 use Rattle.std.proofs.Common.{arith}
 use Rattle.flow_crew.proofs.RunsOn.{runs_further, runs_itself, runs_settled}
-use Rattle.flow_pace.proofs.short.settle_by.Goals as goal
+use Rattle.flow_pace.proofs.short.settle_while_short.Goals as goal
 
 pub loop-left-init : goal.loop-left-init
 loop-left-init g c =

@@ -3,7 +3,7 @@ use Rattle.std.proofs.lemmas.Result.{err_from_is_err_and}
 use Rattle.flow_net.specs.Net.{layout_in, parts_of}
 use Rattle.flow_run.specs.Ran.{IsUnreported}
 use Rattle.flow_run.proofs.InputsAsPosted.{begins_in, goes_on, has_ended, has_run, no_end, no_report}
-use Rattle.flow_run.proofs.pipeline.run_and_keep.Goals as goal
+use Rattle.flow_run.proofs.pipeline.run_through.Goals as goal
 
 pub returns-clause-reported : goal.returns-clause-reported
 returns-clause-reported g c =

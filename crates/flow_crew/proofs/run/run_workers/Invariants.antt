@@ -1,9 +1,0 @@
-use Rattle.flow_crew.specs.Runs.{RunsOn}
-use Rattle.flow_crew.proofs.run.run_workers.Given as goal
-
--- the network has gone on, and so many events may be done yet
-abbrev pub invariant-loop-left : goal.invariant-loop-left
-invariant-loop-left g l = RunsOn l.fn.net l.net
-
-abbrev pub decreases-loop-left : goal.decreases-loop-left
-decreases-loop-left g l = l.left
