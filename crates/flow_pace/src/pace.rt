@@ -1,11 +1,23 @@
 //! How long the events of a network take.
 ghost use Rattle.std.specs.Prelude.{◌<◌};
 
-/// How many events are done between two looks at the time, at most. Messages go on in runs, and each look cuts one.
-const MOST: u64 = 4_096;
+/// How closely events are watched.
+#[derive(Clone, Copy)]
+pub(crate) struct Watch {
+    /// Over how many milliseconds of processor time events are counted before they are judged, at least.
+    span: u64,
+    /// How many are done between two looks at the time, at most. Messages go on in runs, and each look cuts one.
+    most: u64,
+}
 
-/// Over how many milliseconds of processor time events are counted before they are judged, at least.
-const SPAN: u64 = 8;
+/// At first: most networks have short events alone, and are not to be held up.
+pub(crate) const AT_FIRST: Watch = Watch {
+    span: 8,
+    most: 4_096,
+};
+
+/// After a crew, which waits meanwhile for its owner's judgement.
+pub(crate) const AGAIN: Watch = Watch { span: 2, most: 256 };
 
 /// How many events go into a millisecond, at least, where they are short. A crew does one in about as long.
 pub(crate) const SHORT: u64 = 1_000;
@@ -23,17 +35,19 @@ pub(crate) struct Pace {
     seen: u64,
     // how many events go into a millisecond, at least, where they are short
     short: u64,
+    watch: Watch,
 }
 
 impl Pace {
     /// Begins to count at this time. Events are short where at least so many go into a millisecond.
-    pub(crate) fn new(now: u64, short: u64) -> Pace {
+    pub(crate) fn new(now: u64, short: u64, watch: Watch) -> Pace {
         Pace {
             since: now,
             events: 0,
             share: 1,
             seen: now,
             short,
+            watch,
         }
     }
 
@@ -48,12 +62,12 @@ impl Pace {
     /// Counts so many events more by this time, and answers whether those since the last judgement took long.
     pub(crate) fn is_long(&mut self, events: u64, now: u64) -> bool {
         if now == self.seen {
-            self.share = self.share().saturating_mul(2).min(MOST);
+            self.share = self.share().saturating_mul(2).min(self.watch.most);
         }
         self.seen = now;
         self.events = self.events.saturating_add(events);
         let span = now.saturating_sub(self.since);
-        if span < SPAN {
+        if span < self.watch.span {
             return false;
         }
         let is_long = self.events < span.saturating_mul(self.short);

@@ -9,6 +9,7 @@ ghost use Rattle.flow_net.specs.declared.settled.Settled.TheVariants as settled;
 ghost use Rattle.flow_crew.specs.Runs.{IsLeft, RunsOn};
 ghost use Rattle.flow_pace.specs.Alone.{IsLeftAlone};
 
+use crate::pace::{AGAIN, AT_FIRST, Watch};
 use crate::short::settle_while_short;
 use flow_board::Gate;
 use flow_crew::{RunFault, Shift, how_settled, run_shift, run_workers};
@@ -122,11 +123,13 @@ fn run_together<W: Runs + Send + Sync, R: Threads + Wait + Clock + CpuClock + Sy
 {
     let crew = crew_of(rt, workers);
     let mut left = limit;
+    let mut watch = AT_FIRST;
     let mut time = Duration::from_millis(SHIFT);
     while left > 0 {
-        let (next, fewer) = run_turn(rt, alloc, net, crew, gate, time, left)?;
+        let (next, fewer) = run_turn(rt, alloc, net, crew, gate, watch, time, left)?;
         net = next;
         left = fewer;
+        watch = AGAIN;
         time = time.saturating_mul(4);
     }
     let settled = how_settled(&net);
@@ -152,6 +155,7 @@ fn run_turn<W: Runs + Send + Sync, R: Threads + Wait + Clock + CpuClock + Sync, 
     mut net: Net<W>,
     workers: usize,
     gate: &G,
+    watch: Watch,
     time: Duration,
     limit: u64,
 ) -> Result<(Net<W>, u64), RunFault<W>>
@@ -161,7 +165,7 @@ fn run_turn<W: Runs + Send + Sync, R: Threads + Wait + Clock + CpuClock + Sync, 
     ensures fewer { IfOk result (λ ran. ran.1 < limit) }
     ensures left { IfErr result (λ fault. IsLeft W.meaning net fault) }
 {
-    let left = match settle_while_short(rt, alloc, &mut net, limit) {
+    let left = match settle_while_short(rt, alloc, &mut net, watch, limit) {
         Ok(left) => left,
         Err(NetFault::Ids) => return Err(RunFault::Ids(net)),
         Err(NetFault::Memory) => return Err(RunFault::Net(net)),

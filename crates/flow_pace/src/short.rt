@@ -4,7 +4,7 @@ ghost use Rattle.flow_net.specs.Net.{NetNeedsId};
 ghost use Rattle.flow_net.specs.declared.fault.NetFault.TheVariants.{NotEnabled, Ids};
 ghost use Rattle.flow_crew.specs.Runs.{RunsOn};
 
-use crate::pace::{Pace, SHORT, SHORT_IN_LANES};
+use crate::pace::{Pace, SHORT, SHORT_IN_LANES, Watch};
 use crate::used::used;
 use flow_net::{Net, NetFault, Settled};
 use flow_value::Runs;
@@ -19,6 +19,7 @@ pub(crate) fn settle_while_short<W: Runs, R: CpuClock>(
     rt: &R,
     alloc: Global,
     net: &mut Net<W>,
+    watch: Watch,
     limit: u64,
 ) -> Result<u64, NetFault>
     requires some { 0 < limit }
@@ -27,7 +28,7 @@ pub(crate) fn settle_while_short<W: Runs, R: CpuClock>(
     ensures used_up { result ≡ Err Ids → NetNeedsId W.meaning net.new }
     ensures never { result ≢ Err NotEnabled }
 {
-    let mut pace = Pace::new(used(rt), short_in(net));
+    let mut pace = Pace::new(used(rt), short_in(net), watch);
     let mut left = limit;
     while left > 0 {
         let share = pace.share().min(left);
