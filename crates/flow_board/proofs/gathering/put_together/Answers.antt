@@ -1,4 +1,4 @@
-use Rattle.std.proofs.Common.{◌≡◌, length, map, refl, ap, ◌∙◌}
+use Rattle.std.proofs.Common.{rules, ◌≡◌, length, map, refl, ap, ◌∙◌}
 use Rattle.flow_link.specs.Planned.{layout_of}
 use Rattle.flow_block.specs.Node.{NodeState}
 use Rattle.flow_core.specs.InOrder.{all_looked}
@@ -31,3 +31,7 @@ returns-clause-looked g c =
           closed.plan c.args.board.rest.plan closed.nodes.items g.net.nodes closed.inputs.items g.net.inputs closed.exits.items g.net.exits
           c.close.ensures.plan c.close.ensures.nodes c.close.ensures.inputs c.close.ensures.exits refl,
     )
+
+pub join-requires : goal.join-requires
+join-requires g c =
+    search rules

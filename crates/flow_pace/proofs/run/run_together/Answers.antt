@@ -1,3 +1,4 @@
+use Rattle.std.proofs.Common.{rules}
 use Rattle.std.proofs.lemmas.Result.{err_from_is_err_and}
 use Rattle.flow_crew.proofs.RunsOn.{left_further, net_is_lawful, runs_further, runs_itself}
 use Rattle.flow_pace.proofs.run.run_together.Goals as goal
@@ -19,3 +20,7 @@ loop-left-preserved g c =
 pub returns-clause-lawful : goal.returns-clause-lawful
 returns-clause-lawful g c =
     net_is_lawful g.W.Runs.meaning c.loop-left.net c.loop-left.net.kept
+
+pub returns-clause-still : goal.returns-clause-still
+returns-clause-still g c =
+    search rules
