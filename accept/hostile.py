@@ -1,0 +1,136 @@
+"""Programs under hostile conditions: memory that is refused, streams that fail, and broken texts."""
+
+import os
+import re
+import shutil
+import tempfile
+
+from accept.builds import SECONDS, keep_log
+from accept.examples import ALONE, OPEN, SEVERAL, names_of, wanted_of
+from accept.shell import run
+
+# What failing.c says on standard error where it has a call fail.
+FAILED = "one call fails\n"
+
+# A program with more calls of a kind counts as one that does not end.
+MOST = 20_000
+
+# What the program says where a call of a kind fails that it can't go on without.
+TOLD = {"growth": (4, "flow_run: memory\n"), "read": (5, "flow_run: 12 Read\n"), "write": (5, "flow_run: 13 Write\n")}
+
+# The lines of the example that say in which way memory was refused to its crew.
+WAYS = {"refused: the network came back", "refused: its parts came back"}
+
+# The examples of whose bytes each is cut or changed: a small one with a join, and one with texts, steps and predicates.
+BROKEN = ("matches", "routes")
+
+# A refusal of a text: its number and name, and where it is.
+REFUSAL = re.compile(r"flow_run: [1-9]\d?( [A-Z]\w+)( \d+ [A-Z]\w+)?( (top|(block|link|record) \d+))?\n")
+
+
+def what_lacks():
+    return None if shutil.which("cc") else "there is no C compiler"
+
+
+def build_failing(part, copy):
+    library = ["cc", "-O1", "-Wall", "-shared", "-fPIC", "-o", "out/failing.so", "accept/failing.c", "-ldl"]
+    ended = run(library, copy)
+    part.compare("accept/failing.c", ("status", 0, ended.status))
+    return ended.status == 0
+
+
+def each_failing(copy, kind, command):
+    """How a command ends of which one call of this kind fails, for each such call that it makes."""
+    for number in range(1, MOST):
+        ended = run(f"FAILS={kind}:{number} LD_PRELOAD=./out/failing.so {command}", copy)
+        if FAILED not in ended.err:
+            return
+        ended.err = ended.err.replace(FAILED, "")
+        yield number, ended
+    raise RuntimeError(f"{command} makes more than {MOST} calls")
+
+
+def shown(number, ended):
+    return [f"call {number}: status {ended.status}", ended.out, ended.err]
+
+
+def fail_each(part, copy, name, workers, kind):
+    """A run of an example comes to its report, or says why not. Then nothing goes out after the call that failed."""
+    command = f"out/flow_run.unproved examples/{name}.toml {workers} < examples/{name}.csv"
+    report, status = wanted_of(copy, name)
+    has_failed, wrong = False, []
+    for number, ended in each_failing(copy, kind, command):
+        is_told = (ended.status, ended.err) == TOLD.get(kind)
+        is_cut = report.startswith(ended.out) and ended.out != report if kind == "write" else not ended.out
+        is_whole = (ended.status, ended.out, ended.err) == (status, report, "")
+        has_failed = has_failed or is_told
+        wrong += [] if is_whole and kind != "write" or is_told and is_cut else shown(number, ended)
+    part.count(not wrong and has_failed == (kind in TOLD), f"{command}, {kind}", wrong)
+
+
+def fail_all(part, copy):
+    """Refuses memory to the examples, with one worker and with several, and has their streams fail."""
+    if not build_failing(part, copy):
+        return
+    for name in names_of(copy):
+        for kind in ("growth", "read", "write", "interrupt", "short"):
+            fail_each(part, copy, name, ALONE, kind)
+        if name not in OPEN:
+            fail_each(part, copy, name, SEVERAL, "growth")
+
+
+def build_examples(part, copy, logs):
+    script = ". bin/program.sh; use_program examples examples; build_unproved"
+    ended = run(["sh", "-c", script, "bin/flow_run"], copy, SECONDS)
+    keep_log(logs, "examples", ended)
+    part.compare("build of examples", ("status", 0, ended.status))
+    return ended.status == 0
+
+
+def go_on(part, copy, logs):
+    """The example whose crew goes on from what comes back. Until its network is made it may end for want of memory, and prints nothing.
+    From then on it comes to its end, and each way of coming back is seen."""
+    if not build_examples(part, copy, logs) or not build_failing(part, copy):
+        return
+    command = "out/examples.unproved memory"
+    wanted, seen, wrong = run(command, copy).out.splitlines(), set(), []
+    for number, ended in each_failing(copy, "growth", command):
+        lines = ended.out.splitlines()
+        seen |= WAYS.intersection(lines)
+        good = ended.status == 0 and [line for line in lines if line not in WAYS] == wanted
+        if not good and not seen:
+            good = not lines and re.search("out of memory|allocation failed", ended.err)
+        wrong += [] if good else shown(number, ended)
+    part.count(not wrong, command, wrong)
+    part.compare(f"{command}: what came back", ("ways", sorted(WAYS), sorted(seen)))
+
+
+def broken(whole):
+    """Each beginning of a text, and the text with each of its bytes changed to one that no UTF-8 has."""
+    for place in range(len(whole)):
+        yield f"cut at {place}", whole[:place]
+        yield f"ff at {place}", whole[:place] + b"\xff" + whole[place + 1 :]
+
+
+def is_answered(ended):
+    """Whether a run comes to a report, or is refused with one line and writes nothing."""
+    if ended.status in (0, 1):
+        return not ended.err and ended.out.endswith("quiet\n")
+    return ended.status == 2 and not ended.out and REFUSAL.fullmatch(ended.err)
+
+
+def break_texts(part, copy):
+    with tempfile.TemporaryDirectory(dir=os.path.join(copy, "out")) as room:
+        for name in BROKEN:
+            for suffix in ("toml", "csv"):
+                paths = {kind: f"examples/{name}.{kind}" for kind in ("toml", "csv")}
+                with open(os.path.join(copy, paths[suffix]), "rb") as file:
+                    whole = file.read()
+                paths[suffix] = os.path.join(room, f"broken.{suffix}")
+                wrong = []
+                for how, text in broken(whole):
+                    with open(paths[suffix], "wb") as file:
+                        file.write(text)
+                    ended = run(f"out/flow_run.unproved {paths['toml']} {ALONE} < {paths['csv']}", copy)
+                    wrong += [] if is_answered(ended) else [how, *shown(0, ended)]
+                part.count(not wrong, f"examples/{name}.{suffix}", wrong)
