@@ -33,7 +33,7 @@ use Rattle.flow_core.specs.Statements.{IsReceivedOf}
 use Rattle.flow_core.proofs.ExitsEnded.{ended_exits_stay}
 use Rattle.flow_core.proofs.NetworksInOrder.{all_exit_calls_keep, all_received_was_given}
 use Rattle.flow_core.proofs.PlacesOfLinks.{leads_there}
-use Rattle.flow_core.proofs.SchedulesGoWell.{callers_stay}
+use Rattle.flow_net.proofs.NoneAsked.{callers_on}
 use Rattle.flow_lists.proofs.PlacesTell.{place_rises}
 use Rattle.flow_exec.specs.Works.{works_of}
 use Rattle.flow_moves.proofs.PlansRun.{plan_runs}
@@ -65,11 +65,6 @@ begins_so {b} (Block n) e = ap (λ (i : ℕ). Block i) (eqb-true n b e)
 begins_so {b} (Input n) e = absurd (cc)
 
 module _ {W : Type 0} (layout : Layout W) (meaning : ℕ → Value → Result (List Value) ℕ) (runs : IsRun layout) where
-  callers_on : (count : ℕ) (old new : NetState) → Happened layout meaning count old new → callers_in new ≡ callers_in old
-  callers_on zero old new same = ap callers_in same
-  callers_on (suc count) old new (mid, (before, last)) =
-      ap callers_in last.new_is ∙ callers_stay layout meaning last.event mid ∙ callers_on count old mid before
-
   module _ (l : ℕ) (there : l < length layout.links) (to : (link_in layout.links l).target ≡ Exit) where
     abbrev mine : NetState → ExitState
     mine net = exit_at layout net l
@@ -84,7 +79,7 @@ module _ {W : Type 0} (layout : Layout W) (meaning : ℕ → Value → Result (L
     pub received_on : (count : ℕ) (old new : NetState) → Happened layout meaning count old new
         → (mine new).received ≡ (mine old).received
     received_on count old new happened =
-        ap (λ (caller : CallerState). caller.received) (caller_same old new (callers_on count old new happened))
+        ap (λ (caller : CallerState). caller.received) (caller_same old new (callers_on layout meaning count old new happened))
 
     over_then : (how : Outcome) (net : NetState) (event : NetEvent) → NetKeeps layout meaning net → Enabled layout net event
         → over_by (mine net) ≡ Some how → over_by (mine (after layout meaning event net)) ≡ Some how
@@ -224,9 +219,6 @@ module _ {W : Type 0} (works : W → Value → Result (List Value) WorkFault) (p
       at_last : exit_then after ≡ after_exit (ExitCall.ask false) (exit_then settled)
       at_last = exit_called (ExitCall.ask false) refl settled after rests kept_settled
 
-      asked_no_more : (exit_then after).asked ≡ false
-      asked_no_more = ap (λ (exit : ExitState). exit.asked) at_last
-
       same_received : (exit_then after).received ≡ (exit_then before).received
       same_received =
           ap (λ (exit : ExitState). exit.received) at_last
@@ -243,10 +235,6 @@ module _ {W : Type 0} (works : W → Value → Result (List Value) WorkFault) (p
         kept_looked =
             subst (λ (p : Plan W). ∥ NetKeeps (layout_of p) (works_of works (layout_of p)) after ∥₁) (sym same)
             (kept_called (ExitCall.ask false) refl settled after rests kept_settled)
-
-        pub not_asked_looked : (exit_at (layout_of same_plan) after l).asked ≡ false
-        not_asked_looked =
-            subst (λ (p : Plan W). (exit_at (layout_of p) after l).asked ≡ false) (sym same) asked_no_more
 
         pub received_looked : (exit_at (layout_of same_plan) after l).received ≡ (exit_then before).received
         received_looked =

@@ -15,6 +15,7 @@ pub mod JobsReturn
 pub mod KeptOn
 pub mod LooksAll
 pub mod NetTells
+pub mod NoneAsked
 pub mod PassesCount
 pub mod RunsGoOn
 pub mod WorksHappen

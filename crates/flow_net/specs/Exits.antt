@@ -1,5 +1,5 @@
 -- What a contract sees of an exit with the network that it owns.
-use Rattle.std.proofs.Common.{◌≡◌, ℕ, false, List, Result, refl, subst, ◌∙◌}
+use Rattle.std.proofs.Common.{◌≡◌, ℕ, List, Result, refl, subst, ◌∙◌}
 use Rattle.flow_value.specs.declared.value.Value.{Value}
 use Rattle.flow_value.specs.declared.work.WorkFault.{WorkFault}
 use Rattle.flow_link.specs.Layout.{Layout}
@@ -51,8 +51,6 @@ module _ {W : Type 0} {w : _} {e : _} where
     pub same_block : exit_block new ≡ exit_block old
     pub same_link : exit_link new ≡ exit_link old
     pub over : StaysOver (sight_of (exit_of old)) (sight_of (exit_of new))
-    -- no receive waits there between two calls
-    pub not_asked : (exit_of old).asked ≡ false → (exit_of new).asked ≡ false
 
   pub exit_stays : (port : NetExit W w e) → ExitGoesOn port port
   exit_stays port = record {
@@ -60,7 +58,6 @@ module _ {W : Type 0} {w : _} {e : _} where
     same_block = refl;
     same_link = refl;
     over = over_stays (sight_of (exit_of port));
-    not_asked = λ idle. idle;
   }
 
   pub exit_goes_further : (first mid last : NetExit W w e) → ExitGoesOn first mid → ExitGoesOn mid last → ExitGoesOn first last
@@ -69,5 +66,4 @@ module _ {W : Type 0} {w : _} {e : _} where
     same_block = tail.same_block ∙ head.same_block;
     same_link = tail.same_link ∙ head.same_link;
     over = over_goes_further (sight_of (exit_of first)) (sight_of (exit_of mid)) (sight_of (exit_of last)) head.over tail.over;
-    not_asked = λ idle. tail.not_asked (head.not_asked idle);
   }

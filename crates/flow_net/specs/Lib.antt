@@ -1,3 +1,4 @@
+pub mod Asked
 pub mod Dues
 pub mod Engine
 pub mod Entries

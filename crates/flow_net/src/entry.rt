@@ -1,5 +1,6 @@
 //! A way into a network that it owns: values are begun there, one at a time, while the network runs.
 ghost use Rattle.std.specs.Prelude.{◌≡◌, ◌<◌, ℕ, true, false, length, IfOk, IfErr, IfSome, IfNone, OnOk, OnErr};
+ghost use Rattle.flow_net.specs.Asked.{none_asked};
 ghost use Rattle.flow_link.specs.Plan.{link_in};
 ghost use Rattle.flow_link.specs.Planned.{layout_of};
 ghost use Rattle.flow_link.specs.Posted.{is_numbered_ending};
@@ -36,6 +37,7 @@ pub struct NetEntry<W: Runs> {
     ghost there: { link < length (layout_of engine.plan).links },
     ghost own: { is_entry_of block (link_in (layout_of engine.plan).links link) ≡ true },
     ghost placed: { place ≡ input_place (layout_of engine.plan) block },
+    ghost unasked: { none_asked engine.parts ≡ true },
 }
 
 /// Whether this link leads from the input of this block.

@@ -1,5 +1,6 @@
 //! A way out of a network that it owns: what a block gives is received there, one message at a time.
 ghost use Rattle.std.specs.Prelude.{◌≡◌, ◌<◌, ℕ, true, false, length, is_some, IfOk, IfErr, IfSome, IfNone, OnOk, OnErr, Some};
+ghost use Rattle.flow_net.specs.Asked.{none_asked};
 ghost use Rattle.flow_link.specs.Plan.{link_in};
 ghost use Rattle.flow_link.specs.Planned.{layout_of};
 ghost use Rattle.flow_block.specs.Planned.{exit_place};
@@ -17,7 +18,8 @@ use flow_poll::{ReceivePort, Received};
 use flow_value::{Runs, Value};
 use std::alloc::{AllocError, Global};
 
-/// The exit of a block, with the network that it owns. Each look has the network do at most so many events, `steps`.
+/// The exit of a block, with the network that it owns. Each look has the network do at most so many events, `steps`. Between two calls no
+/// receive waits.
 ///
 /// Microsoft: `IReceivableSourceBlock<TOutput>`.
 #[derive(Drop)]
@@ -32,6 +34,7 @@ pub struct NetExit<W: Runs> {
     ghost there: { link < length (layout_of engine.plan).links },
     ghost own: { is_exit_of block (link_in (layout_of engine.plan).links link) ≡ true },
     ghost placed: { place ≡ exit_place (layout_of engine.plan) link },
+    ghost unasked: { none_asked engine.parts ≡ true },
 }
 
 /// Whether this link leads from this block out of the network.
@@ -106,7 +109,6 @@ impl<W: Runs> NetExit<W> {
         ensures same_link { exit_link self.new ≡ exit_link self.old }
         ensures received { (exit_of self.new).received ≡ (exit_of self.old).received }
         ensures over { (how : Outcome) → over_by (exit_of self.old) ≡ Some how → over_by (exit_of self.new) ≡ Some how }
-        ensures not_asked { (exit_of self.new).asked ≡ false }
     {
         self.engine.agenda.list(Spot::Link(self.link));
         self.engine.parts.ask(self.place, waits);

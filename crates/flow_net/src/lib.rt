@@ -27,6 +27,6 @@ pub use exit::NetExit;
 pub use fault::NetFault;
 pub use flow_apart::NetParts;
 pub use flow_link::{Ending, Mark, Posted, are_numbered};
-pub use laws::{blocks_fault_by_number, works_fault_by_number};
+pub use laws::{blocks_fault_by_number, exits_want_nothing, works_fault_by_number};
 pub use net::Net;
 pub use settled::{Settled, State};

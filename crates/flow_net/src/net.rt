@@ -1,5 +1,6 @@
 //! A network with one owner: what is posted goes from block to block until nothing can move.
-ghost use Rattle.std.specs.Prelude.{◌≡◌, ◌<◌, ◌++◌, length};
+ghost use Rattle.std.specs.Prelude.{◌≡◌, ◌<◌, ◌++◌, true, length};
+ghost use Rattle.flow_net.specs.Asked.{none_asked};
 ghost use Rattle.flow_link.specs.Planned.{layout_of};
 ghost use Rattle.flow_block.specs.Node.{left_in};
 ghost use Rattle.flow_block.specs.Peeks.{is_complete};
@@ -21,11 +22,12 @@ use std::slice::from_ref;
 use std::sync::Wait;
 use std::thread::Threads;
 
-/// Blocks and links with what has become of them so far.
+/// Blocks and links with what has become of them so far. No receive waits at its exits.
 #[derive(Drop)]
 pub struct Net<W: Runs> {
     pub(crate) engine: Engine<W>,
     ghost kept: { InOrder W.meaning engine },
+    ghost unasked: { none_asked engine.parts ≡ true },
 }
 
 impl<W: Runs> Net<W> {

@@ -1,5 +1,6 @@
 //! A network taken apart, and put together again.
-ghost use Rattle.std.specs.Prelude.{◌≡◌, ◌<◌, length};
+ghost use Rattle.std.specs.Prelude.{◌≡◌, ◌<◌, true, length};
+ghost use Rattle.flow_net.specs.Asked.{none_asked};
 ghost use Rattle.flow_link.specs.Planned.{layout_of};
 ghost use Rattle.flow_core.specs.InOrder.{NetInOrder, all_looked, journals_of, looked_at};
 ghost use Rattle.flow_exec.specs.Works.{works_of};
@@ -22,6 +23,7 @@ impl<W: Runs> Net<W> {
     pub fn into_parts(self) -> NetParts<W>
         ensures same_layout { apart_layout result ≡ layout_in self }
         ensures same_parts { apart_in result ≡ parts_of self }
+        ensures unasked { none_asked (apart_in result) ≡ true }
     {
         let Net { engine } = self;
         let Engine {
@@ -46,7 +48,8 @@ impl<W: Runs> Net<W> {
     /// The network of these parts, whose ends may have looked at their links at any time: all of them look now. It takes no
     /// memory, and no mark is written.
     pub fn join(apart: NetParts<W>) -> Net<W>
-        requires { ∥ NetInOrder (apart_layout apart) (works_of W.meaning (apart_layout apart)) (apart_in apart) ∥₁ }
+        requires in_order { ∥ NetInOrder (apart_layout apart) (works_of W.meaning (apart_layout apart)) (apart_in apart) ∥₁ }
+        requires unasked { none_asked (apart_in apart) ≡ true }
         ensures same_layout { layout_in result ≡ apart_layout apart }
         ensures looked { parts_of result ≡ all_looked (apart_layout apart) (works_of W.meaning (apart_layout apart))
             (length (apart_layout apart).links) (apart_in apart) }

@@ -1,8 +1,10 @@
-use Rattle.std.proofs.Common.{refl}
+use Rattle.flow_core.specs.State.{callers_in}
+use Rattle.std.proofs.Common.{refl, ap}
 use Rattle.flow_input.specs.Input.{InputCall}
 use Rattle.flow_input.proofs.OneProof.{idle_merely}
 use Rattle.flow_net.specs.Entries.{entry_of}
 use Rattle.flow_net.proofs.EntriesGoOn.{entry_called, entry_law, entry_there, kept_called, open_none}
+use Rattle.flow_net.proofs.NoneAsked.{unasked_then}
 use Rattle.flow_net.proofs.entry.NetEntry.end_so.Goals as goal
 
 pub finish_at-requires : goal.finish_at-requires
@@ -21,7 +23,8 @@ invariant_of-self-2 g c =
       stays_open = open_none (entry_of port).ending c.requires.stays_open;
       numbered = c.requires.numbered;
     }) in
-    ((port.engine.routed, tt), (kept, (port.there, (port.own, (port.placed, tt)))))
+    let unasked = unasked_then port.engine.parts c.finish_at.new.self (ap callers_in c.finish_at.ensures) port.unasked in
+    ((port.engine.routed, tt), (kept, (port.there, (port.own, (port.placed, (unasked, tt))))))
 
 pub returns-clause-finished : goal.returns-clause-finished
 returns-clause-finished g c =

@@ -1,4 +1,7 @@
+use Rattle.flow_exec.specs.Works.{works_of}
+use Rattle.flow_link.specs.Planned.{layout_of}
 use Rattle.flow_net.proofs.EntriesGoOn.{entry_posted_by, kept_posted, own_then, there_then, placed_then, kept_then}
+use Rattle.flow_net.proofs.NoneAsked.{unasked_posted}
 use Rattle.flow_net.proofs.entry.NetEntry.post.Goals as goal
 
 pub post-requires : goal.post-requires
@@ -18,6 +21,8 @@ invariant_of-self g c =
       there = there_then g.W.Runs.meaning port.engine.plan port.block port.link port.place port.there port.own port.placed engine.plan same;
       own = own_then g.W.Runs.meaning port.engine.plan port.block port.link port.place port.there port.own port.placed engine.plan same;
       placed = placed_then g.W.Runs.meaning port.engine.plan port.block port.link port.place port.there port.own port.placed engine.plan same;
+      unasked = unasked_posted (layout_of port.engine.plan) (works_of g.W.Runs.meaning (layout_of port.engine.plan)) port.link port.block c.args.value
+          port.engine.parts engine.parts c.post.result c.post.ensures.posted c.post.ensures.kept port.unasked;
     }
 
 pub returns-clause-posted : goal.returns-clause-posted

@@ -1,7 +1,10 @@
+use Rattle.flow_exec.specs.Works.{works_of}
+use Rattle.flow_link.specs.Planned.{layout_of}
 use Rattle.std.proofs.Common.{ap, ◌∙◌}
 use Rattle.flow_input.specs.Input.{InputState}
 use Rattle.flow_input.specs.Sends.{sends_of}
 use Rattle.flow_net.proofs.EntriesGoOn.{entry_same, kept_served, kept_then, own_then, placed_then, seen_served, there_then}
+use Rattle.flow_net.proofs.NoneAsked.{unasked_on}
 use Rattle.flow_net.proofs.entry.NetEntry.run.Goals as goal
 
 pub serve-served-requires : goal.serve-served-requires
@@ -20,6 +23,8 @@ invariant_of-self g c =
       there = there_then g.W.Runs.meaning port.engine.plan port.block port.link port.place port.there port.own port.placed engine.plan same;
       own = own_then g.W.Runs.meaning port.engine.plan port.block port.link port.place port.there port.own port.placed engine.plan same;
       placed = placed_then g.W.Runs.meaning port.engine.plan port.block port.link port.place port.there port.own port.placed engine.plan same;
+      unasked = unasked_on (layout_of port.engine.plan) (works_of g.W.Runs.meaning (layout_of port.engine.plan)) on.count port.engine.parts engine.parts
+          on.happened port.unasked;
     }
 
 pub returns-clause-same : goal.returns-clause-same

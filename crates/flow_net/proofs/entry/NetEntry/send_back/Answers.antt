@@ -1,6 +1,8 @@
-use Rattle.std.proofs.Common.{refl}
+use Rattle.flow_core.specs.State.{callers_in}
+use Rattle.std.proofs.Common.{refl, ap}
 use Rattle.flow_input.specs.Input.{InputCall}
 use Rattle.flow_net.proofs.EntriesGoOn.{entry_called, entry_there, kept_called}
+use Rattle.flow_net.proofs.NoneAsked.{unasked_then}
 use Rattle.flow_net.proofs.entry.NetEntry.send_back.Goals as goal
 
 pub send_back_at-requires : goal.send_back_at-requires
@@ -14,7 +16,8 @@ invariant_of-self g c =
     let port = c.args.self.now in
     let kept = kept_called g.W.Runs.meaning port.engine.plan port.block port.link port.place port.there port.own port.placed
     (InputCall.send_back c.args.value c.args.at_once) refl port.engine.parts c.send_back_at.new.self c.send_back_at.ensures port.kept c.requires in
-    ((port.engine.routed, tt), (kept, (port.there, (port.own, (port.placed, tt)))))
+    let unasked = unasked_then port.engine.parts c.send_back_at.new.self (ap callers_in c.send_back_at.ensures) port.unasked in
+    ((port.engine.routed, tt), (kept, (port.there, (port.own, (port.placed, (unasked, tt))))))
 
 pub returns-clause-back : goal.returns-clause-back
 returns-clause-back g c =

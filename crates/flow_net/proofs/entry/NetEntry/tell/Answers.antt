@@ -1,3 +1,4 @@
+use Rattle.flow_core.specs.State.{callers_in}
 use Rattle.flow_poll.specs.Sends.{Tells}
 use Rattle.flow_poll.specs.declared.send.Sent.{Sent}
 use Rattle.std.proofs.Common.{ap, sym, subst, ◌≡◌, ◌∙◌}
@@ -8,6 +9,7 @@ use Rattle.flow_link.specs.Planned.{layout_of}
 use Rattle.flow_core.specs.State.{input_at}
 use Rattle.flow_net.specs.Entries.{entry_of}
 use Rattle.flow_net.proofs.EntriesGoOn.{entry_in, entry_law, entry_there, entry_told, kept_told}
+use Rattle.flow_net.proofs.NoneAsked.{unasked_then}
 use Rattle.flow_net.proofs.entry.NetEntry.tell.Goals as goal
 
 pub tell_at-requires : goal.tell_at-requires
@@ -21,7 +23,8 @@ invariant_of-self g c =
     let port = c.args.self.now in
     let kept = kept_told g.W.Runs.meaning port.engine.plan port.block port.link port.place port.there port.own port.placed
     port.engine.parts c.tell_at.new.self port.kept c.tell_at.ensures.done in
-    ((port.engine.routed, tt), (kept, (port.there, (port.own, (port.placed, tt)))))
+    let unasked = unasked_then port.engine.parts c.tell_at.new.self (ap callers_in c.tell_at.ensures.done) port.unasked in
+    ((port.engine.routed, tt), (kept, (port.there, (port.own, (port.placed, (unasked, tt))))))
 
 pub returns-clause-tells : goal.returns-clause-tells
 returns-clause-tells g c =

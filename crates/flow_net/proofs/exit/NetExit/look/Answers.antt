@@ -1,6 +1,9 @@
 use Rattle.std.proofs.Common.{refl}
 use Rattle.flow_exit.specs.Exit.{ExitCall}
-use Rattle.flow_net.proofs.ExitsGoOn.{kept_called, kept_looked, kept_settled, not_asked_looked, own_looked, over_looked, place_there, placed_looked, received_looked, there_looked}
+use Rattle.flow_net.proofs.ExitsGoOn.{kept_called, kept_looked, kept_settled, own_looked, over_looked, place_there, placed_looked, received_looked, there_looked}
+use Rattle.flow_link.specs.Planned.{layout_of}
+use Rattle.flow_exec.specs.Works.{works_of}
+use Rattle.flow_net.proofs.NoneAsked.{unasked_looked}
 use Rattle.flow_net.proofs.exit.NetExit.look.Goals as goal
 
 pub ask-requires : goal.ask-requires
@@ -44,7 +47,11 @@ invariant_of-self-3 g c =
             own_looked g.W.Runs.meaning port.engine.plan port.block port.link port.place port.there port.own port.placed engine.plan same,
             (
               placed_looked g.W.Runs.meaning port.engine.plan port.block port.link port.place port.there port.own port.placed engine.plan same,
-              tt,
+              (
+                unasked_looked (layout_of port.engine.plan) (works_of g.W.Runs.meaning (layout_of port.engine.plan)) port.place on.count c.args.waits
+                    port.engine.parts c.ask.new.self engine.parts c.ask-2.new.self c.ask.ensures on.happened c.ask-2.ensures port.unasked,
+                tt,
+              ),
             ),
           ),
         ),
@@ -66,14 +73,5 @@ returns-clause-over g c =
     let on = c.serve-served.ensures.goes_on in
     let engine = c.serve-served.new.self in
     over_looked g.W.Runs.meaning port.engine.plan port.block port.link port.place port.there port.own port.placed
-    c.args.waits on.count port.engine.parts c.ask.new.self engine.parts port.kept c.ask.ensures on.happened
-    c.ask-2.new.self c.ask-2.ensures engine.plan c.serve-served.ensures.same_plan
-
-pub returns-clause-not_asked : goal.returns-clause-not_asked
-returns-clause-not_asked g c =
-    let port = c.args.self.now in
-    let on = c.serve-served.ensures.goes_on in
-    let engine = c.serve-served.new.self in
-    not_asked_looked g.W.Runs.meaning port.engine.plan port.block port.link port.place port.there port.own port.placed
     c.args.waits on.count port.engine.parts c.ask.new.self engine.parts port.kept c.ask.ensures on.happened
     c.ask-2.new.self c.ask-2.ensures engine.plan c.serve-served.ensures.same_plan

@@ -1,4 +1,5 @@
 use Rattle.flow_net.proofs.ExitsGoOn.{kept_received, place_there}
+use Rattle.flow_net.proofs.NoneAsked.{unasked_received}
 use Rattle.flow_net.proofs.exit.NetExit.take.Goals as goal
 
 pub receive_at-requires : goal.receive_at-requires
@@ -12,4 +13,6 @@ invariant_of-self g c =
     let port = c.args.self.now in
     let kept = kept_received g.W.Runs.meaning port.engine.plan port.block port.link port.place port.there port.own port.placed
     port.engine.parts c.receive_at.new.self c.receive_at.result c.receive_at.ensures.done c.receive_at.ensures.kept port.kept in
-    ((port.engine.routed, tt), (kept, (port.there, (port.own, (port.placed, tt)))))
+    let unasked = unasked_received port.place port.engine.parts c.receive_at.new.self c.receive_at.result c.receive_at.ensures.done c.receive_at.ensures.kept
+    port.unasked in
+    ((port.engine.routed, tt), (kept, (port.there, (port.own, (port.placed, (unasked, tt))))))

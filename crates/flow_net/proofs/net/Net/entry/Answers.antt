@@ -32,6 +32,7 @@ invariant_of-result g c =
       there = found.there;
       own = found.leads;
       placed = found_at (layout_of engine.plan) c.args.input c.in-Some.link found.leads c.route.result.now c.route.ensures;
+      unasked = c.args.self.unasked;
     }
 
 pub returns-clause-stays_open : goal.returns-clause-stays_open

@@ -2,6 +2,7 @@ use Rattle.flow_link.specs.Planned.{layout_of}
 use Rattle.flow_exec.specs.Works.{works_of}
 use Rattle.flow_moves.proofs.PlansRun.{plan_runs}
 use Rattle.flow_net.proofs.EventsTaken.{goes_on_taken}
+use Rattle.flow_net.proofs.NoneAsked.{unasked_on}
 use Rattle.flow_net.proofs.KeptOn.{kept_by_plan, lawful_by_plan, inputs_on, posted_on}
 use Rattle.flow_net.proofs.net.Net.event.Goals as goal
 
@@ -14,6 +15,8 @@ invariant_of-self g c =
       kept = kept_by_plan g.W.Runs.meaning start.plan last.plan on.count start.parts last.parts c.take.ensures.same_plan
           on.happened
           c.args.self.now.kept;
+      unasked = unasked_on (layout_of start.plan) (works_of g.W.Runs.meaning (layout_of start.plan)) on.count start.parts last.parts on.happened
+          c.args.self.now.unasked;
     }
 
 pub returns-clause-enabled : goal.returns-clause-enabled

@@ -2,12 +2,23 @@ use Rattle.std.proofs.Common.{length, ap, subst, sym, ◌∙◌}
 use Rattle.flow_link.specs.Planned.{layout_of}
 use Rattle.flow_core.specs.InOrder.{journals_of}
 use Rattle.flow_core.specs.Inputs.{InputsStay}
-use Rattle.flow_core.specs.State.{NetState}
+use Rattle.flow_core.specs.State.{NetState, callers_in}
 use Rattle.flow_core.proofs.AllLook.{looks_leave_posted, looks_write_no_mark}
 use Rattle.flow_exec.specs.Works.{works_of}
 use Rattle.flow_moves.proofs.MerelyKept.{lawful_merely}
 use Rattle.flow_moves.proofs.PlansRun.{plan_runs}
+use Rattle.flow_net.specs.Asked.{none_asked}
+use Rattle.flow_net.proofs.NoneAsked.{callers_looked, unasked_then}
 use Rattle.flow_net.proofs.net.Net.join.Goals as goal
+
+pub invariant_of-result-clause-unasked : goal.invariant_of-result-clause-unasked
+invariant_of-result-clause-unasked g c =
+    let parts = c.new-parts.result in
+    let layout = layout_of c.args.apart.plan in
+    let works = works_of g.W.Runs.meaning layout in
+    unasked_then parts c.look_all.new.self.parts
+    (ap callers_in c.look_all.ensures.looked ∙ callers_looked layout works (length layout.links) parts)
+    (ap none_asked c.new-parts.ensures ∙ c.requires.unasked)
 
 pub returns-clause-journals : goal.returns-clause-journals
 returns-clause-journals g c =

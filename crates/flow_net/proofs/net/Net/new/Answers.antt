@@ -9,6 +9,9 @@ use Rattle.flow_core.proofs.NetworksInOrder.{fresh_nets_keep}
 use Rattle.flow_exec.specs.Works.{works_of}
 use Rattle.flow_moves.proofs.PlansRun.{plan_runs}
 use Rattle.flow_link.specs.Posted.{input_of}
+use Rattle.flow_block.specs.Planned.{links_out}
+use Rattle.flow_net.specs.Asked.{none_asked}
+use Rattle.flow_net.proofs.NoneAsked.{unasked_fresh}
 use Rattle.flow_net.proofs.KeptOn.{fresh_posted}
 use Rattle.flow_net.proofs.WorksNumbered.{works_fault_by_number}
 use Rattle.flow_net.proofs.net.Net.new.Goals as goal
@@ -24,7 +27,10 @@ invariant_of-result-in-Ok g c =
     (works_fault_by_number _ g.W.Runs.meaning g.met.W.Runs.never_memory layout) posted count c.requires.numbered in
     let is_fresh : c.new-parts.result ≡ fresh_net layout posted =
     c.new-parts.ensures ∙ rw (c.in-Ok.ensures.nodes, c.fill_inputs-inputs.ensures, c.in-Ok.ensures.exits, c.in-Ok.ensures.lines) refl in
-    record { kept = merely (subst (λ (net : NetState). NetKeeps layout meaning net) (sym is_fresh) kept) }
+    record {
+      kept = merely (subst (λ (net : NetState). NetKeeps layout meaning net) (sym is_fresh) kept);
+      unasked = ap none_asked is_fresh ∙ unasked_fresh (links_out layout);
+    }
 
 pub returns-in-Ok-clause-made : goal.returns-in-Ok-clause-made
 returns-in-Ok-clause-made g c =

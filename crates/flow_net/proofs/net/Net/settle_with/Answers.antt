@@ -1,6 +1,7 @@
 use Rattle.flow_link.specs.Planned.{layout_of}
 use Rattle.flow_exec.specs.Works.{works_of}
 use Rattle.flow_moves.proofs.PlansRun.{plan_runs}
+use Rattle.flow_net.proofs.NoneAsked.{unasked_on}
 use Rattle.flow_net.proofs.KeptOn.{kept_by_plan, lawful_by_plan, quiet_by_plan, rests_by_plan, inputs_on, posted_on, still_if_settled}
 use Rattle.flow_net.proofs.net.Net.settle_with.Goals as goal
 
@@ -10,6 +11,8 @@ invariant_of-self g c =
     record {
       kept = kept_by_plan g.W.Work.meaning start.plan c.settle_with.new.self.plan c.settle_with.ensures.goes_on.count start.parts c.settle_with.new.self.parts
           c.settle_with.ensures.same_plan c.settle_with.ensures.goes_on.happened c.args.self.now.kept;
+      unasked = unasked_on (layout_of start.plan) (works_of g.W.Work.meaning (layout_of start.plan)) c.settle_with.ensures.goes_on.count start.parts
+          c.settle_with.new.self.parts c.settle_with.ensures.goes_on.happened c.args.self.now.unasked;
     }
 
 pub returns-clause-lawful : goal.returns-clause-lawful
