@@ -126,7 +126,7 @@ fn end_by_seed(alloc: Global, case: &Case, seed: u64) -> Result<Option<usize>, F
 }
 
 /// How many schedules each network is driven by.
-const SEEDS: u64 = 48;
+const SEEDS: u64 = 128;
 
 #[test]
 fn seeded_schedules_agree(rt: HostRuntime) -> Result<(), Fail> {

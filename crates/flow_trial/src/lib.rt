@@ -18,6 +18,6 @@ pub use nets::{ENOUGH, PAIR, THREE, came_to, network, settles};
 pub use schedules::{do_first, in_order, wander};
 pub use shares::share;
 pub use tables::{
-    BATCHED_JOINS, BATCHES, BROADCASTS, CHAINS, CROWDED, JOINS, LINKS, PAIRED, RESERVING, SHARED,
-    TABLES, WORKS, WRITE_ONCES,
+    BATCHED_JOINS, BATCHES, BROADCASTS, CHAINS, CROWDED, FAULTS, JOINS, LINKS, PAIRED, RESERVING,
+    SHARED, TABLES, WORKS, WRITE_ONCES,
 };

@@ -45,6 +45,7 @@ fn moves(alloc: Global) -> Result<Vec<Move>, Fail> {
         Move::End(LinkEnd::Fault(1)),
         Move::End(LinkEnd::Fault(5)),
         Move::End(LinkEnd::Fault(7)),
+        Move::End(LinkEnd::Fault(9)),
         Move::TurnDown,
         Move::Postpone,
         Move::Consume,

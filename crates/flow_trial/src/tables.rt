@@ -120,6 +120,11 @@ in* buffer, s broadcast, a action(), b action(), in => s, s => a max 1, s => b
 in,1 in,2
 1 block s done ; link 1 ["1"] ; link 2 ["1","2"] ; left [] ; block a open ; record ["1"] ; block b done ; record ["1","2"] ; quiet
 
+links that carry some of the copies that they admit
+in* transform(int), s broadcast, a action(), b action(), in => s, s => a when odd max 2, s => b max 3
+in,1 in,2 in,3 in,4
+1 block s done ; held 0 [] ; link 1 [1,3] ; link 2 [1,2,3] ; left [] ; block a open ; record [1,3] ; block b open ; record [1,2,3] ; quiet
+
 room for one element
 in* buffer, s broadcast capacity 1, a action(), b action(), in => s, s => a, s => b
 in,1 in,2 in,3
@@ -157,6 +162,11 @@ one value for each link
 w* write_once, a action(), b action(), c action(), w => a, w => b, w -> c
 w,7
 1 block w done ; input [] ; link 0 ["7"] ; link 1 ["7"] ; link 2 ["7"] ; left [] ; block a done ; record ["7"] ; block b done ; record ["7"] ; block c open ; record ["7"] ; quiet
+
+a link that has carried the value ends plainly
+w* write_once, a action(), b action(), w => a max 1, w => b
+w,7
+1 block w done ; link 0 ["7"] ; link 1 ["7"] ; left [] ; block a open ; record ["7"] ; block b done ; record ["7"] ; quiet
 
 a source keeps what is declined
 in* buffer, w write_once, a action(), in => w, w => a
@@ -328,7 +338,37 @@ a,a1 a,a2 a,a3 b,b1 b,b2 b,b3
 0 block a done ; left [] ; block b done ; left [] ; block j done ; held 0 [] ; held 1 [] ; left [] ; block k done ; held 0 [] ; held 1 [] ; left [] ; block x done ; block y done ; quiet | ["a1","b1"] ["a2","b2"] ["a3","b3"]
 "#;
 
-/// All of them.
+/// Inputs that end with a fault, as no text can say.
+pub const FAULTS: &str = r#"
+faulting input
+a* buffer, out action(), a => out
+a,1 a!5
+1 block a faulted 5 ; left [] ; block out faulted 5 ; record ["1"] ; quiet
+1 block a faulted 5 ; left ["1"] ; block out faulted 5 ; record [] ; quiet
+
+a faulting input with links for each
+in* buffer, b buffer capacity 1, c buffer capacity 1, out action(), in => b, in => c, b => out
+in,1 in,2 in,3 in,4 in!5
+1 block in faulted 5 ; block b faulted 5 ; block c faulted 5 ; block out faulted 5
+
+a fault while another link waits
+in* buffer, b action(int) capacity 1, c buffer capacity 1, in => b, in => c
+in,x in,1 in,2 in,3 in!7
+1 block in faulted 7 ; block b faulted 1 ; block c faulted 7
+1 block in faulted 7 ; block b faulted 7 ; block c faulted 7
+
+fault at each event
+a* buffer, b* buffer, j join ports 2 greedy false, out action(), a => j, b -> j port 1, j => out
+a,1 a,2 a!9 b,3 b,4
+1 block a faulted 9 ; block j faulted 9 ; port 0 [] ; held 0 [] ; port 1 [] ; held 1 [] ; block out faulted 9 ; record [] ; quiet
+1 block a faulted 9 ; block j faulted 9 ; port 0 ["1"] ; held 0 [] ; port 1 ["3"] ; held 1 [] ; block out faulted 9 ; record [] ; quiet
+1 block a faulted 9 ; block j faulted 9 ; port 0 ["1"] ; held 0 [] ; port 1 ["3"] ; held 1 [] ; block out faulted 9 ; record [["1","3"]] ; quiet
+1 block a faulted 9 ; block j faulted 9 ; port 0 ["1","2"] ; held 0 [] ; port 1 ["3","4"] ; held 1 [] ; block out faulted 9 ; record [] ; quiet
+1 block a faulted 9 ; block j faulted 9 ; port 0 ["1","2"] ; held 0 [] ; port 1 ["3","4"] ; held 1 [] ; block out faulted 9 ; record [["1","3"]] ; quiet
+1 block a faulted 9 ; block j faulted 9 ; port 0 ["1","2"] ; held 0 [] ; port 1 ["3","4"] ; held 1 [] ; block out faulted 9 ; record [["1","3"],["2","4"]] ; quiet
+"#;
+
+/// All that texts can say.
 pub const TABLES: &[&str] = &[
     CHAINS,
     LINKS,

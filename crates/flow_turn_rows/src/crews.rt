@@ -8,7 +8,7 @@ use crate::networks::{case_of, network_of};
 use flow_board::OpenGate;
 use flow_crew::run_workers;
 use flow_net::{Net, Settled};
-use flow_trial::TABLES;
+use flow_trial::{FAULTS, TABLES};
 use flow_value::Steps;
 use std::alloc::Global;
 use std::process::Abort;
@@ -54,6 +54,7 @@ fn all_end(rt: &(impl Abort + Threads + Wait + Clock + Sync), alloc: Global, wor
     for table in TABLES {
         each_ends(rt, alloc, table, workers);
     }
+    each_ends(rt, alloc, FAULTS, workers);
 }
 
 #[test]

@@ -3,7 +3,7 @@
 use crate::networks::{case_of, network_of};
 use crate::turned::{Way, turned};
 use flow_net::Net;
-use flow_trial::{Case, TABLES};
+use flow_trial::{Case, FAULTS, TABLES};
 use flow_value::Steps;
 use std::alloc::Global;
 use std::process::Abort;
@@ -31,4 +31,5 @@ pub(crate) fn check_all(rt: &(impl Abort + Threads + Sync), alloc: Global, way: 
     for table in TABLES {
         check_each(rt, alloc, table, way);
     }
+    check_each(rt, alloc, FAULTS, way);
 }
