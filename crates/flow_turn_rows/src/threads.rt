@@ -6,9 +6,5 @@ use crate::turned::Way;
 #[test]
 fn runs_end_by_two_threads(rt: HostRuntime) {
     check_all(&rt, rt.alloc(), Way::Both(64));
-}
-
-#[test]
-fn runs_end_by_single_events_of_two_threads(rt: HostRuntime) {
     check_all(&rt, rt.alloc(), Way::Both(1));
 }

@@ -70,28 +70,13 @@ fn records_the_same<R: Abort + Threads + Wait + Clock + Sync>(
 }
 
 #[test]
-fn one_worker_records_the_same(rt: HostRuntime) {
-    records_the_same(&rt, rt.alloc(), 1, 1_000_000);
-}
-
-#[test]
-fn two_workers_record_the_same(rt: HostRuntime) {
-    records_the_same(&rt, rt.alloc(), 2, 1_000_000);
-}
-
-#[test]
-fn four_workers_record_the_same(rt: HostRuntime) {
-    records_the_same(&rt, rt.alloc(), 4, 1_000_000);
-}
-
-#[test]
-fn more_workers_than_tasks_record_the_same(rt: HostRuntime) {
-    records_the_same(&rt, rt.alloc(), 64, 1_000_000);
-}
-
-#[test]
-fn small_rounds_record_the_same(rt: HostRuntime) {
-    records_the_same(&rt, rt.alloc(), 2, 10);
+fn workers_record_the_same(rt: HostRuntime) {
+    let alloc = rt.alloc();
+    records_the_same(&rt, alloc, 1, 1_000_000);
+    records_the_same(&rt, alloc, 2, 1_000_000);
+    records_the_same(&rt, alloc, 4, 1_000_000);
+    records_the_same(&rt, alloc, 64, 1_000_000);
+    records_the_same(&rt, alloc, 2, 10);
 }
 
 #[test]
