@@ -9,13 +9,14 @@ use flow_value::Steps;
 use std::alloc::Global;
 use std::process::Abort;
 use std::sync::Wait;
+use std::sync::atomic::{AtomicBool, Ordering};
 use std::thread::Threads;
 use std::time::Clock;
 
 /// More rounds than any of these networks needs.
 const ROUNDS: u32 = 1_000;
 
-/// Turns the tasks in rounds of at most so many events, until one that did none, and tells how many events were done.
+/// Turns the tasks in rounds of at most so many events, until one that did none or until this is set, and tells how many events were done.
 fn turn_by_crew<R: Abort + Threads + Wait + Clock + Sync, G: Gate + Sync>(
     rt: &R,
     alloc: Global,
@@ -24,6 +25,7 @@ fn turn_by_crew<R: Abort + Threads + Wait + Clock + Sync, G: Gate + Sync>(
     workers: usize,
     gate: &G,
     budget: u64,
+    over: &AtomicBool,
 ) -> (Vec<Task<Steps>>, u64)
     requires workers { (0 < workers) × (workers ≤ 64) }
     requires of { AllTasksOf board.now tasks.items }
@@ -37,15 +39,15 @@ fn turn_by_crew<R: Abort + Threads + Wait + Clock + Sync, G: Gate + Sync>(
         };
         tasks = back;
         all = all.saturating_add(events);
-        if events == 0 {
+        if events == 0 || over.load(Ordering::SeqCst) {
             return (tasks, all);
         }
     }
     panic!(rt; "some task moves for ever")
 }
 
-/// The network, turned by so many workers until no task moves, in rounds of at most so many events, and gathered; and how many events
-/// that took.
+/// The network, turned by so many workers in rounds of at most so many events, until no task moves or this is set, and gathered; and how
+/// many events that took.
 pub(crate) fn turned_by_crew<R: Abort + Threads + Wait + Clock + Sync, G: Gate + Sync>(
     rt: &R,
     alloc: Global,
@@ -53,6 +55,7 @@ pub(crate) fn turned_by_crew<R: Abort + Threads + Wait + Clock + Sync, G: Gate +
     workers: usize,
     gate: &G,
     budget: u64,
+    over: &AtomicBool,
 ) -> (Net<Steps>, u64)
     requires workers { (0 < workers) × (workers ≤ 64) }
 {
@@ -66,7 +69,7 @@ pub(crate) fn turned_by_crew<R: Abort + Threads + Wait + Clock + Sync, G: Gate +
         entries,
         exits,
     } = parts;
-    let (tasks, events) = turn_by_crew(rt, alloc, &board, tasks, workers, gate, budget);
+    let (tasks, events) = turn_by_crew(rt, alloc, &board, tasks, workers, gate, budget, over);
     let parts = Parts {
         board,
         tasks,

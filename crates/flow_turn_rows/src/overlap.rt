@@ -114,12 +114,13 @@ fn two_workers_run_jobs_at_one_time(rt: HostRuntime) {
     has_recorded(&rt, &net, 2, 101);
 }
 
+// The rounds end once the action's first job is done, and the owner does the rest.
 #[test]
-fn a_round_runs_jobs_at_one_time(rt: HostRuntime) {
+fn rounds_run_jobs_at_one_time(rt: HostRuntime) {
     let alloc = rt.alloc();
     let gate = Meeting::new();
     let net = started(&rt, alloc);
-    let (mut net, _) = turned_by_crew(&rt, alloc, net, 2, &gate, 1_000_000);
+    let (mut net, _) = turned_by_crew(&rt, alloc, net, 2, &gate, 1_000_000, &gate.recorded);
     assert!(rt; gate.has_met());
     assert!(rt; matches!(net.settle(alloc, u64::MAX), Ok(Settled::Quiet)));
     has_recorded(&rt, &net, 2, 101);

@@ -11,6 +11,7 @@ use flow_value::{Steps, Value};
 use std::alloc::Global;
 use std::process::Abort;
 use std::sync::Wait;
+use std::sync::atomic::AtomicBool;
 use std::thread::Threads;
 use std::time::Clock;
 
@@ -35,7 +36,16 @@ fn turned<R: Abort + Threads + Wait + Clock + Sync>(
 ) -> (Net<Steps>, u64)
     requires workers { (0 < workers) × (workers ≤ 64) }
 {
-    turned_by_crew(rt, alloc, started(rt, alloc), workers, &OpenGate, budget)
+    let over = AtomicBool::new(false);
+    turned_by_crew(
+        rt,
+        alloc,
+        started(rt, alloc),
+        workers,
+        &OpenGate,
+        budget,
+        &over,
+    )
 }
 
 /// The network, settled by one owner, and how many events that took.
