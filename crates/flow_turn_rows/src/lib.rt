@@ -22,6 +22,8 @@ mod limits;
 #[cfg(test)]
 mod midway;
 #[cfg(test)]
+mod missing;
+#[cfg(test)]
 mod networks;
 #[cfg(test)]
 mod numbers;
