@@ -1,5 +1,6 @@
 -- Tasks of one board, by their places, in part and together.
-use Rattle.std.proofs.Common.{◌≡◌, ℕ, zero, suc, ◌<◌, List, [], ◌∷◌, ◌++◌, length, slice_index_or, set, take, drop, ap, sym, subst, ◌∙◌, arith}
+use Rattle.std.proofs.Common.{◌≡◌, ℕ, zero, suc, ◌<◌, List, [], ◌∷◌, ◌++◌, length, map, slice_index_or, set, take, drop, ap, sym, subst, ◌∙◌, arith}
+use Rattle.flow_lists.specs.Lists.{below}
 use Rattle.flow_board.specs.Parts.{AllTasksOf, board_of}
 use Rattle.flow_task.specs.declared.board.Board.{Board}
 use Rattle.flow_task.specs.declared.numbered.Task.{Task}
@@ -48,3 +49,10 @@ module _ {W : Type 0} {w : _} {e : _} (board : Board W) where
   pub whole_of : (front back whole : List (Task W w e)) → whole ≡ front ++ back → AllTasksOf board front → AllTasksOf board back
       → AllTasksOf board whole
   whole_of front back whole is first others = subst (AllTasksOf board) (sym is) (tasks_with front back first others)
+
+-- of parts in the order of their numbers the first has number 0
+pub first_number : {A : Type 0} (number : A → ℕ) (parts : List A) (first : A) (count : ℕ) → map number parts ≡ below count → 0 < length parts
+    → first ≡ slice_index_or parts 0 first → number first ≡ 0
+first_number number [] first count are some is = absurd (omega (arith, some))
+first_number number (part ∷ parts) first zero are some is = absurd cc
+first_number number (part ∷ parts) first (suc count) are some is = let its : number part ≡ 0 = cc in ap number is ∙ its

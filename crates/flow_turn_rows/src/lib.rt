@@ -42,4 +42,6 @@ mod threads;
 #[cfg(test)]
 mod turned;
 #[cfg(test)]
+mod watched;
+#[cfg(test)]
 mod workers;
