@@ -4,7 +4,7 @@
 //! back to its block. Where the block takes it, the lane is freed (`clear`); where it cannot be taken yet, it is kept here
 //! (`keep`) and taken out again later (`take_kept`). No ticket ever stands in two lanes.
 ghost use Rattle.std.specs.Prelude.{◌≡◌, ◌↔◌, ◌<◌, true, false, length, option_map, is_some, Some, None};
-ghost use Rattle.std.specs.Prelude.{All, position, slice_set, IsOk, IfErr, IfSome, OnErr, OnOk};
+ghost use Rattle.std.specs.Prelude.{All, count_by, position, slice_set, IsOk, IfErr, IfSome, OnErr, OnOk};
 ghost use Rattle.std.specs.List.{list_all, list_any};
 ghost use Rattle.std.specs.Option.{ForSome};
 ghost use Rattle.flow_exec.specs.Jobs.{ticket_in};
@@ -100,6 +100,13 @@ impl<W: Runs> BlockLanes<W> {
         ensures { result ≡ list_all has_ended self.now.sides }
     {
         self.sides.iter().all(|side| side.has_ended())
+    }
+
+    /// How many are ended.
+    pub fn ended_count(&self) -> usize
+        ensures { result ≡ count_by has_ended self.now.sides }
+    {
+        self.sides.iter().filter(|side| side.has_ended()).count()
     }
 
     /// The first one in which nothing is.

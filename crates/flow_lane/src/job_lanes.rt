@@ -1,5 +1,5 @@
 //! The lanes of a block with their tables, which the block shares with the threads that do its jobs.
-ghost use Rattle.std.specs.Prelude.{◌≡◌, ◌+◌, ◌<◌, true, is_some, length, map, option_map, position, set, IfErr, IfOk, IfSome, OnErr, OnOk, Some, None};
+ghost use Rattle.std.specs.Prelude.{◌≡◌, ◌+◌, ◌<◌, true, count_by, is_some, length, map, option_map, position, set, IfErr, IfOk, IfSome, OnErr, OnOk, Some, None};
 ghost use Rattle.std.specs.Arc.{arc_value};
 ghost use Rattle.std.specs.List.{list_all, list_any};
 ghost use Rattle.std.specs.Option.{ForSome};
@@ -101,6 +101,13 @@ impl<W: Runs> JobLanes<W> {
         ensures { result ≡ list_any has_room self.now.sides }
     {
         self.sides.has_room()
+    }
+
+    /// How many of them are ended.
+    pub fn ended_count(&self) -> usize
+        ensures { result ≡ count_by has_ended self.now.sides }
+    {
+        self.sides.ended_count()
     }
 
     /// The job that a block begins next, with the work of these lanes.

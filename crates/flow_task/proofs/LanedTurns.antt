@@ -1,7 +1,7 @@
 -- What comes of a turn of a block, and of what its lanes do behind it.
-use Rattle.std.proofs.Common.{◌≡◌, ℕ, ◌+◌, ◌-◌, ◌<◌, ◌≤◌, ltb, cond, Bool, true, false, ◌&&◌, List, length, Option, Some, None, is_none, Result, Ok, Err, IfOk, refl, sym, ap, ◌∙◌, subst, arith}
+use Rattle.std.proofs.Common.{◌≡◌, ℕ, ◌+◌, ◌-◌, ◌<◌, ◌≤◌, ltb, cond, Bool, true, false, not, ◌&&◌, ◌||◌, List, length, Option, Some, None, is_none, is_some, Result, Ok, Err, IfOk, refl, sym, ap, ◌∙◌, subst, arith}
 use Rattle.std.proofs.Math.Logic.{∥∥₁_elim, ∥∥₁_prop}
-use Rattle.std.proofs.lemmas.Bool.{and_parts}
+use Rattle.std.proofs.lemmas.Bool.{and_parts, lt-ltb}
 use Rattle.flow_value.specs.declared.value.Value.{Value}
 use Rattle.flow_link.specs.declared.trace.Outcome.{Outcome}
 use Rattle.flow_link.specs.Plan.{has_work}
@@ -17,8 +17,8 @@ use Rattle.flow_poll.specs.declared.actor.TurnState.{TurnState}
 use Rattle.flow_poll.specs.declared.actor.TurnState.TheVariants as turn
 use Rattle.flow_task.specs.Cells.{is_told}
 use Rattle.flow_task.specs.Events.{AllLook, HasEvent, HasLooked, Spends, TurnsBy}
-use Rattle.flow_task.specs.Laned.{BeginIsDone, LanesRest, is_ended}
-use Rattle.flow_task.specs.Turns.{JobsAreDone, are_links_over, state_of}
+use Rattle.flow_task.specs.Laned.{BeginIsDone, LanesRest, is_ended, state_with}
+use Rattle.flow_task.specs.Turns.{JobsAreDone, are_links_over, has_done, state_of}
 use Rattle.flow_task.proofs.Spends.{turns_more}
 
 -- What happens
@@ -50,10 +50,11 @@ told_stopped None (Some how) told = refl
 told_stopped (Some end) None told = absurd (cc)
 told_stopped (Some end) (Some how) told = refl
 
-ended_stopped : (test told : Bool) (before : TurnState) → is_ended before ≡ true
-    → before ≡ cond (ltb 0 0) turn.Moved (cond (told && test) turn.Ended turn.Idle) → told ≡ true
-ended_stopped test true before ended is = refl
-ended_stopped test false before ended is = absurd (let wrong = ap is_ended (sym is) ∙ ended in cc)
+ended_stopped : (done test told : Bool) (before : TurnState) → is_ended before ≡ true
+    → before ≡ cond done turn.Moved (cond (told && test) turn.Ended turn.Idle) → told ≡ true
+ended_stopped done test true before ended is = refl
+ended_stopped true test false before ended is = absurd (let wrong = ap is_ended (sym is) ∙ ended in cc)
+ended_stopped false test false before ended is = absurd (let wrong = ap is_ended (sym is) ∙ ended in cc)
 
 begins_not : (block : BlockState) → is_none block.stopped ≡ false → may_begin block ≡ false
 begins_not block stopped =
@@ -68,16 +69,16 @@ module _ {W : Type 0} (makes : Value → Result (List Value) ℕ) (node : NodeSt
     begin = λ room. begins_not node.block stopped;
   }
 
-  rest_by : (ended : Bool) (before : TurnState) (known : Option Outcome) (lanes new : LanesState W) → is_ended before ≡ ended
-      → before ≡ state_of 0 known node → (is_ended before ≡ false → new ≡ lanes) → LanesRest makes node lanes → LanesRest makes node new
-  rest_by false before known lanes new is state same rest = subst (LanesRest makes node) (sym (same is)) rest
-  rest_by true before known lanes new is state same rest =
+  rest_by : (ended done : Bool) (before : TurnState) (known : Option Outcome) (lanes new : LanesState W) → is_ended before ≡ ended
+      → before ≡ state_of done known node → (is_ended before ≡ false → new ≡ lanes) → LanesRest makes node lanes → LanesRest makes node new
+  rest_by false done before known lanes new is state same rest = subst (LanesRest makes node) (sym (same is)) rest
+  rest_by true done before known lanes new is state same rest =
       stopped_rests (told_stopped known node.block.stopped
-      (ended_stopped (are_links_over node) (is_told known node.block.stopped) before is state)) new
+      (ended_stopped done (are_links_over node) (is_told known node.block.stopped) before is state)) new
 
-  pub rest_stays : (before : TurnState) (known : Option Outcome) (lanes new : LanesState W) → before ≡ state_of 0 known node
+  pub rest_stays : (done : Bool) (before : TurnState) (known : Option Outcome) (lanes new : LanesState W) → before ≡ state_of done known node
       → (is_ended before ≡ false → new ≡ lanes) → LanesRest makes node lanes → LanesRest makes node new
-  rest_stays before known lanes new state same rest = rest_by (is_ended before) before known lanes new refl state same rest
+  rest_stays done before known lanes new state same rest = rest_by (is_ended before) done before known lanes new refl state same rest
 
 -- the works are the same ones, and the node is as it was
 pub rests_so : {W : Type 0} (makes makes' : Value → Result (List Value) ℕ) (first old : NodeState) (lanes : LanesState W) → makes' ≡ makes
@@ -104,16 +105,15 @@ lanes_done (Err fault) makes makes' first second third lanes new alike one two j
 
 -- where nothing was done in all, the lanes leave nothing to do
 pub rest_then : {W : Type 0} (makes makes' makes'' : Value → Result (List Value) ℕ) (budget events left total : ℕ) (mid last : NodeState)
-    (before : TurnState) (known : Option Outcome) (lanes new : LanesState W) → makes' ≡ makes → events ≤ budget → total ≡ budget - left
-    → Spends makes'' (budget - events) left mid last → before ≡ state_of events known mid
+    (done : Bool) (before : TurnState) (known : Option Outcome) (lanes new : LanesState W) → makes' ≡ makes → events ≤ budget
+    → total ≡ budget - left → Spends makes'' (budget - events) left mid last → before ≡ state_of done known mid
     → (0 < budget - events → left ≡ budget - events → LanesRest makes' mid lanes) → (is_ended before ≡ false → new ≡ lanes)
     → 0 < budget → total ≡ 0 → LanesRest makes last new
-rest_then makes makes' makes'' budget events left total mid last before known lanes new alike within is spent state rest same some none =
+rest_then makes makes' makes'' budget events left total mid last done before known lanes new alike within is spent state rest same some none =
     let less = spent.less in
     let no_event : events ≡ 0 = omega (arith, within, is, less, none) in
     let all_left : left ≡ budget - events = omega (arith, within, is, less, none) in
-    let at_rest = rest_stays makes' mid before known lanes new
-    (subst (λ (n : ℕ). before ≡ state_of n known mid) no_event state) same (rest (omega (arith, some, no_event)) all_left) in
+    let at_rest = rest_stays makes' mid done before known lanes new state same (rest (omega (arith, some, no_event)) all_left) in
     rests_so makes makes' last mid new alike (sym (spent.kept all_left)) at_rest
 
 -- both are told of a turn that did nothing
@@ -130,3 +130,12 @@ pub rest_of_some : {W : Type 0} {A E : Type 0} (budget : ℕ) (count : A → ℕ
 rest_of_some budget count makes node lanes (Ok turned) rest =
     λ some none its is. let same : lanes ≡ its = cc in subst (LanesRest makes node) same (rest some none)
 rest_of_some budget count makes node lanes (Err fault) rest = tt
+
+-- The state
+
+-- a turn that did an event has moved, whatever else it did
+pub moved_so : (more over told : Bool) (events : ℕ) (known : Option Outcome) (node : NodeState) → 0 < events
+    → turn.Moved ≡ state_with more over (state_of (has_done events told known) known node)
+moved_so more over told events known node some =
+    ap (λ (test : Bool). state_with more over (cond (test || (not told && is_some known)) turn.Moved
+    (cond (is_told known node.block.stopped && are_links_over node) turn.Ended turn.Idle))) (sym (lt-ltb 0 events some))

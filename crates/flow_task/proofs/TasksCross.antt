@@ -31,7 +31,7 @@ use Rattle.flow_task.specs.contracts.task.BlockTask as block_task
 module _ (W : RattleType) (w : runs.Ghosts W.Denot) (e : eq.Ghosts W.Denot) where
   pub block_row : IsSend node.the_row → IsSend source.the_row → IsSend target.the_row → IsSend (note.the_row outcome.the_row)
       → IsSend (block_task.the_row W w e)
-  block_row nodes sources targets notes = declared_send (block_task.the_type W w e) (search (sendable, crosses) depth 9, (search (sendable, crosses) depth 9, (search (sendable, crosses) depth 9, (search (sendable, crosses) depth 9, (search (sendable, crosses) depth 9, (search (sendable, crosses) depth 9, (search (sendable, crosses) depth 9, tt)))))))
+  block_row nodes sources targets notes = declared_send (block_task.the_type W w e) (search (sendable, crosses) depth 9, (search (sendable, crosses) depth 9, (search (sendable, crosses) depth 9, (search (sendable, crosses) depth 9, (search (sendable, crosses) depth 9, (search (sendable, crosses) depth 9, (search (sendable, crosses) depth 9, (search (sendable, crosses) depth 9, tt))))))))
 
   pub watch_row : IsSend (note.the_row outcome.the_row) → IsSend (watch.the_row W w e)
   watch_row notes = declared_send (watch.the_type W w e) (search (sendable, crosses) depth 9, (search (sendable, crosses) depth 9, (search (sendable, crosses) depth 9, tt)))

@@ -1,5 +1,5 @@
 -- What goes through the lanes of a block: which results it takes back, and when its lanes leave nothing to do.
-use Rattle.std.specs.Prelude.{◌≡◌, ◌⊎◌, ℕ, Bool, true, false, cond, List, Option, Some, None, Result, Ok, Err}
+use Rattle.std.specs.Prelude.{◌≡◌, ◌⊎◌, ℕ, ◌==◌, Bool, true, false, not, cond, count_by, List, Option, Some, None, Result, Ok, Err}
 use Rattle.std.specs.List.{list_all, list_any}
 use Rattle.flow_value.specs.declared.value.Value.{Value}
 use Rattle.flow_link.specs.Layout.{Layout}
@@ -10,7 +10,7 @@ use Rattle.flow_block.specs.Peeks.{may_begin, may_end}
 use Rattle.flow_block_law.specs.JobsEnd.{after_job}
 use Rattle.flow_exec.specs.Execution.{SameWork}
 use Rattle.flow_exec.specs.declared.job.Job.{Job}
-use Rattle.flow_lane.specs.BlockLanes.{LanesState, has_ended, has_room, job_at, stage_at}
+use Rattle.flow_lane.specs.BlockLanes.{LanesState, has_ended, has_room, job_at, stage_at, with_free_ended}
 use Rattle.flow_lane.specs.Items.{JobState, state_of}
 use Rattle.flow_poll.specs.declared.actor.TurnState.{TurnState}
 use Rattle.flow_poll.specs.declared.actor.TurnState.TheVariants as turn
@@ -59,11 +59,22 @@ module _ {W : Type 0} where
   are_lanes_over None = true
   are_lanes_over (Some lanes) = list_all has_ended lanes.sides
 
--- a block's task has not ended before its lanes are over
-abbrev pub state_with : Bool → TurnState → TurnState
-state_with over turn.Moved = turn.Moved
-state_with over turn.Idle = turn.Idle
-state_with over turn.Ended = cond over turn.Ended turn.Idle
+  -- other lanes are ended than before, if there are any
+  abbrev pub are_more_ended : Option (LanesState W) → Option (LanesState W) → Bool
+  are_more_ended (Some lanes) (Some after) = not (count_by has_ended lanes.sides == count_by has_ended after.sides)
+  are_more_ended _ _ = false
+
+  -- nothing was done to the lanes, or those in which nothing was are ended
+  abbrev pub OnlyEnd : Option (LanesState W) → Option (LanesState W) → Type 0
+  OnlyEnd (Some lanes) (Some after) = (after ≡ lanes) ⊎ (after ≡ with_free_ended lanes)
+  OnlyEnd None None = Unit {0}
+  OnlyEnd _ _ = ⊥
+
+-- a block's task has not ended before its lanes are over, and a turn that ended lanes did something
+abbrev pub state_with : (more over : Bool) → TurnState → TurnState
+state_with more over turn.Moved = turn.Moved
+state_with more over turn.Idle = cond more turn.Moved turn.Idle
+state_with more over turn.Ended = cond more turn.Moved (cond over turn.Ended turn.Idle)
 
 abbrev pub is_ended : TurnState → Bool
 is_ended turn.Moved = false

@@ -3,6 +3,7 @@ use Rattle.std.specs.Prelude.{◌≡◌, ℕ, List, Result}
 use Rattle.flow_value.specs.declared.value.Value.{Value}
 use Rattle.flow_value.specs.declared.work.WorkFault.{WorkFault}
 use Rattle.flow_task.specs.Events.{AllLook, HasEvent, InputHappens, InputLooks, TurnsBy}
+use Rattle.flow_task.specs.Laned.{OnlyEnd}
 use Rattle.flow_task.specs.Tasks.{makes_of}
 use Rattle.flow_task.specs.declared.numbered.Kind.{Kind}
 use Rattle.flow_task.specs.declared.numbered.Kind.TheVariants as kind
@@ -19,3 +20,14 @@ module _ {W : Type 0} {w : _} {e : _} (meaning : W → Value → Result (List Va
   -- so many events happened, each of which came next, and its ends looked before, between and behind them; what a lane does is none
   abbrev pub HasTurned : ℕ → Task W w e → Task W w e → Type 0
   HasTurned n old new = TurnedBy n old.kind new.kind
+
+module _ {W : Type 0} {w : _} {e : _} where
+  -- nothing was done to the lanes of a block, but that those in which nothing was are ended
+  abbrev pub LanesEndBy : Kind W w e → Kind W w e → Type 0
+  LanesEndBy (kind.Block old) (kind.Block new) = OnlyEnd old.lanes new.lanes
+  LanesEndBy (kind.Input old) (kind.Input new) = Unit {0}
+  LanesEndBy (kind.Lane old) (kind.Lane new) = Unit {0}
+  LanesEndBy _ _ = ⊥
+
+  abbrev pub LanesOnlyEnd : Task W w e → Task W w e → Type 0
+  LanesOnlyEnd old new = LanesEndBy old.kind new.kind

@@ -1,5 +1,5 @@
 -- What the calls of a block leave of it, when it is turned, when it is over, and when it has nothing to do.
-use Rattle.std.specs.Prelude.{◌≡◌, ℕ, zero, suc, ◌<◌, ltb, cond, Bool, true, false, not, ◌&&◌, List, [], ◌∷◌, length, Option, Some, None, is_none, Result, Ok, Err}
+use Rattle.std.specs.Prelude.{◌≡◌, ℕ, zero, suc, ◌<◌, ltb, cond, Bool, true, false, not, ◌&&◌, ◌||◌, List, [], ◌∷◌, length, Option, Some, None, is_none, is_some, Result, Ok, Err}
 use Rattle.std.specs.declared.alloc.AllocError.{AllocError}
 use Rattle.flow_value.specs.declared.value.Value.{Value}
 use Rattle.flow_lists.specs.Lists.{every, below, is_empty}
@@ -94,10 +94,14 @@ are_outs_over node = every (λ k. is_over (stage_from k node)) (below (out_count
 abbrev pub are_links_over : NodeState → Bool
 are_links_over node = are_ins_over node && are_outs_over node
 
--- what comes of a turn in which so many events were done, where this is known of the end of its block
-abbrev pub state_of : ℕ → Option Outcome → NodeState → TurnState
-state_of events known node =
-    cond (ltb 0 events) turn.Moved (cond (is_told known node.block.stopped && are_links_over node) turn.Ended turn.Idle)
+-- a turn did something: so many events, or it told how its block has ended, which was not told before
+abbrev pub has_done : ℕ → Bool → Option Outcome → Bool
+has_done events before known = ltb 0 events || (not before && is_some known)
+
+-- what comes of a turn that did something, or nothing, where this is known of the end of its block
+abbrev pub state_of : Bool → Option Outcome → NodeState → TurnState
+state_of done known node =
+    cond done turn.Moved (cond (is_told known node.block.stopped && are_links_over node) turn.Ended turn.Idle)
 
 -- the end of a link would make no move, but one that the other end has forestalled
 abbrev pub OutIsStill : ℕ → NodeState → Type 0

@@ -43,6 +43,7 @@ impl<W: Runs> BlockTask<W> {
         ensures note { self.new.note ≡ self.old.note }
         ensures spends { Spends (makes_of W.meaning self.old) left.old left.new self.old.node self.new.node }
         ensures rests { OnOk result (0 < left.old → left.new ≡ left.old → LanesRest (makes_of W.meaning self.old) self.old.node lanes.new) }
+        ensures none { left.old ≡ 0 → lanes.new ≡ lanes.old }
     {
         while *left > 0 {
             if !self.work_in_lanes(alloc, board, lanes, gate)? {

@@ -1,6 +1,8 @@
 //! The task of a lane: a thread that turns it does the jobs that its block puts there.
-ghost use Rattle.std.specs.Prelude.{◌≡◌, IfOk};
-ghost use Rattle.flow_task.specs.LaneTasks.{LaneStands, job_of};
+ghost use Rattle.std.specs.Prelude.{◌≡◌, false, IfOk};
+ghost use Rattle.flow_lane.specs.Views.{LaneStage, is_working};
+ghost use Rattle.flow_poll.specs.declared.actor.TurnState.TheVariants.{Ended};
+ghost use Rattle.flow_task.specs.LaneTasks.{LaneTurns, job_of};
 
 use crate::board::Board;
 use crate::gate::Gate;
@@ -35,11 +37,14 @@ impl<W: Runs> LaneTask<W> {
         Some((self.its.block, ticket))
     }
 
-    /// Does the job that has come, if one has. That is no event of the network. Where memory is out, the job stays in hand.
+    /// Does the job that has come, if one has. That is no event of the network, so no budget is needed for it. Where memory is out, the
+    /// job stays in hand.
     pub(crate) fn turn<G: Gate>(&mut self, alloc: Global, gate: &G) -> Result<Turned, AllocError>
         ensures of { self.new.of.value ≡ self.old.of.value }
         ensures events { IfOk result (λ turned. turned.events ≡ 0) }
-        ensures state { IfOk result (λ turned. LaneStands turned.state self.new.its.lane.side.stage) }
+        ensures turned { IfOk result (λ turned. LaneTurns turned.state self.old.its.lane self.new.its.lane) }
+        ensures free { IfOk result (λ turned. is_working self.new.its.lane.side.stage ≡ false) }
+        ensures ended { IfOk result (λ turned. turned.state ≡ Ended → self.new.its.lane.side.stage ≡ LaneStage.ended) }
     {
         if let Some(ticket) = self.its.lane.ticket() {
             gate.before(self.its.block, ticket);

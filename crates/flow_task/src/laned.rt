@@ -1,13 +1,14 @@
 //! The task of a block: what is turned of it, and its lanes.
-ghost use Rattle.std.specs.Prelude.{◌≡◌, ◌<◌, ◌≤◌, true, false, cond, is_none, ltb, IfOk, OnErr, Some};
+ghost use Rattle.std.specs.Prelude.{◌≡◌, ◌==◌, ◌<◌, ◌≤◌, true, false, not, cond, count_by, is_none, is_some, ltb, IfOk, OnErr, Some};
 ghost use Rattle.std.specs.Option.{ForSome};
 ghost use Rattle.flow_poll.specs.Turns.{Extends};
 ghost use Rattle.flow_poll.specs.declared.actor.TurnState.TheVariants.{Ended, Moved};
 ghost use Rattle.flow_task.specs.Cells.{last_outcome};
 ghost use Rattle.flow_task.specs.Events.{AllLook, HasEvent, HasLooked, TurnsBy};
-ghost use Rattle.flow_task.specs.Laned.{LanesRest, are_lanes_over, is_ended, state_with};
+ghost use Rattle.flow_lane.specs.BlockLanes.{has_ended};
+ghost use Rattle.flow_task.specs.Laned.{LanesRest, OnlyEnd, are_lanes_over, are_more_ended, is_ended, state_with};
 ghost use Rattle.flow_task.specs.Tasks.{journal_of, makes_of};
-ghost use Rattle.flow_task.specs.Turns.{IsOver, IsStill, are_links_over, state_of};
+ghost use Rattle.flow_task.specs.Turns.{IsOver, IsStill, are_links_over, has_done, state_of};
 
 use crate::board::Board;
 use crate::gate::{Gate, JobPolicy};
@@ -26,7 +27,7 @@ pub struct LanedTask<W: Runs> {
 
 impl<W: Runs> LanedTask<W> {
     /// Turns the block, and then gives it what its lanes have done, and gives them what it holds. It has ended once its lanes are ended,
-    /// too.
+    /// too, and a turn that ended any has moved. With no budget it does nothing else to them.
     pub(crate) fn turn<G: Gate>(
         &mut self,
         alloc: Global,
@@ -44,8 +45,11 @@ impl<W: Runs> LanedTask<W> {
         ensures looked { OnErr result (∥ HasLooked AllLook self.old.block.node self.new.block.node ∥₁) }
         ensures happens { IfOk result (λ turned.
             ∥ TurnsBy AllLook (HasEvent (makes_of W.meaning self.old.block)) turned.events self.old.block.node self.new.block.node ∥₁) }
-        ensures state { IfOk result (λ turned. turned.state ≡ state_with (are_lanes_over self.new.lanes)
-            (state_of turned.events self.new.block.note.known self.new.block.node)) }
+        ensures lanes { budget ≡ 0 → OnlyEnd self.old.lanes self.new.lanes }
+        ensures state { IfOk result (λ turned. turned.state ≡
+            state_with (are_more_ended self.old.lanes self.new.lanes) (are_lanes_over self.new.lanes)
+            (state_of (has_done turned.events (is_some self.old.block.note.known) self.new.block.note.known) self.new.block.note.known
+            self.new.block.node)) }
         ensures ended { IfOk result (λ turned. turned.state ≡ Ended → IsOver (journal_of self.new.block)) }
         ensures links { IfOk result (λ turned. turned.state ≡ Ended → are_links_over self.new.block.node ≡ true) }
         ensures told { IfOk result (λ turned. turned.state ≡ Ended → self.new.block.note.known ≡ last_outcome (journal_of self.new.block)) }
@@ -87,8 +91,10 @@ impl<W: Runs> BlockTask<W> {
         ensures looked { OnErr result (∥ HasLooked AllLook self.old.node self.new.node ∥₁) }
         ensures happens { IfOk result (λ turned.
             ∥ TurnsBy AllLook (HasEvent (makes_of W.meaning self.old)) turned.events self.old.node self.new.node ∥₁) }
-        ensures state { IfOk result (λ turned. turned.state ≡ state_with (are_lanes_over (Some lanes.new))
-            (state_of turned.events self.new.note.known self.new.node)) }
+        ensures lanes { budget ≡ 0 → OnlyEnd (Some lanes.old) (Some lanes.new) }
+        ensures state { IfOk result (λ turned. turned.state ≡
+            state_with (are_more_ended (Some lanes.old) (Some lanes.new)) (are_lanes_over (Some lanes.new))
+            (state_of (has_done turned.events (is_some self.old.note.known) self.new.note.known) self.new.note.known self.new.node)) }
         ensures ended { IfOk result (λ turned. turned.state ≡ Ended → IsOver (journal_of self.new)) }
         ensures links { IfOk result (λ turned. turned.state ≡ Ended → are_links_over self.new.node ≡ true) }
         ensures told { IfOk result (λ turned. turned.state ≡ Ended → self.new.note.known ≡ last_outcome (journal_of self.new)) }
@@ -99,10 +105,11 @@ impl<W: Runs> BlockTask<W> {
             in_place: false,
             gate,
         };
+        let before = lanes.ended_count();
         let turned = self.turn(alloc, board, budget, &policy)?;
         let mut left = budget - turned.events;
         match self.use_lanes(alloc, board, lanes, gate, &mut left) {
-            Ok(()) => Ok(end_lanes(lanes, turned, budget - left)),
+            Ok(()) => Ok(end_lanes(lanes, before, turned, budget - left)),
             Err(fault) => {
                 if left == budget {
                     return Err(fault);
@@ -117,13 +124,19 @@ impl<W: Runs> BlockTask<W> {
 }
 
 /// What comes of a turn in which so many events were done, those in lanes among them. Where the block has ended, the lanes in which
-/// nothing is end.
-fn end_lanes<W: Runs>(lanes: &mut JobLanes<W>, turned: Turned, events: u32) -> Turned
+/// nothing is end. Before the turn, so many were ended.
+fn end_lanes<W: Runs>(lanes: &mut JobLanes<W>, before: usize, turned: Turned, events: u32) -> Turned
     ensures events { result.events ≡ events }
-    ensures state { result.state ≡ cond (ltb 0 events) Moved (state_with (are_lanes_over (Some lanes.new)) turned.state) }
+    ensures state { result.state ≡ cond (ltb 0 events) Moved
+        (state_with (not (before == count_by has_ended lanes.new.sides)) (are_lanes_over (Some lanes.new)) turned.state) }
     ensures lanes { is_ended turned.state ≡ false → lanes.new ≡ lanes.old }
+    ensures only { OnlyEnd (Some lanes.old) (Some lanes.new) }
 {
-    if events > 0 {
+    let over = match turned.state {
+        TurnState::Ended => lanes.end(),
+        TurnState::Moved | TurnState::Idle => false,
+    };
+    if events > 0 || before != lanes.ended_count() {
         return Turned {
             events,
             state: TurnState::Moved,
@@ -131,7 +144,7 @@ fn end_lanes<W: Runs>(lanes: &mut JobLanes<W>, turned: Turned, events: u32) -> T
     }
     let state = match turned.state {
         TurnState::Ended => {
-            if lanes.end() {
+            if over {
                 TurnState::Ended
             } else {
                 TurnState::Idle

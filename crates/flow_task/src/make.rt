@@ -134,6 +134,7 @@ impl<W: Runs> Board<W> {
             ins,
             at: Station::In(0, 0),
             note: self.cells[number].note(),
+            told: false,
         };
         Task {
             number,

@@ -52,7 +52,7 @@ impl<W: Runs> Task<W> {
     ghost use Rattle.flow_task.specs.Parts.{board_of, job_in, marks_in, task_number};
     ghost use Rattle.flow_task.specs.Ended.{HasEnded};
     ghost use Rattle.flow_task.specs.Rests.{HasState, Rests};
-    ghost use Rattle.flow_task.specs.TaskTurns.{HasTurned};
+    ghost use Rattle.flow_task.specs.TaskTurns.{HasTurned, LanesOnlyEnd};
 
     /// The marks of its block, in order; an input has none, nor has a lane.
     pub fn journal(&self) -> &[Mark]
@@ -69,7 +69,10 @@ impl<W: Runs> Task<W> {
     /// the events that are done. An event that needs a message id where none is left is not done, and the rest goes on.
     ///
     /// A block has ended once its last mark is Done or a fault, all its links are refused or ended, its watches can know how it has ended,
-    /// and its lanes are ended; an input once its link is; a lane once its block has ended it. What a lane does is no event.
+    /// and its lanes are ended; an input once its link is; a lane once its block has ended it.
+    ///
+    /// What takes no event is done with a budget of 0, too: a block tells how it has ended and ends its lanes, and a lane does the job that
+    /// has come. A turn that did this has moved.
     pub fn turn(
         &mut self,
         alloc: Global,
@@ -81,10 +84,11 @@ impl<W: Runs> Task<W> {
         ensures number { task_number self.new ≡ task_number self.old }
         ensures within { IfOk result (λ turned. turned.events ≤ budget) }
         ensures happens { IfOk result (λ turned. HasTurned W.meaning turned.events self.old self.new) }
-        ensures state { IfOk result (λ turned. HasState turned.events turned.state self.new) }
+        ensures state { IfOk result (λ turned. HasState turned.events turned.state self.old self.new) }
         ensures still { IfOk result (λ turned. 0 < budget → turned.events ≡ 0 → Rests W.meaning self.new) }
         ensures extends { Extends (marks_in self.old) (marks_in self.new) }
         ensures nothing { budget ≡ 0 → marks_in self.new ≡ marks_in self.old }
+        ensures lanes { budget ≡ 0 → LanesOnlyEnd self.old self.new }
         ensures looked { OnErr result (HasTurned W.meaning 0 self.old self.new) }
         ensures kept { OnErr result (marks_in self.new ≡ marks_in self.old) }
         ensures ended { IfOk result (λ turned. turned.state ≡ Ended → HasEnded self.new) }
@@ -105,10 +109,11 @@ impl<W: Runs> Task<W> {
         ensures number { task_number self.new ≡ task_number self.old }
         ensures within { IfOk result (λ turned. turned.events ≤ budget) }
         ensures happens { IfOk result (λ turned. HasTurned W.meaning turned.events self.old self.new) }
-        ensures state { IfOk result (λ turned. HasState turned.events turned.state self.new) }
+        ensures state { IfOk result (λ turned. HasState turned.events turned.state self.old self.new) }
         ensures still { IfOk result (λ turned. 0 < budget → turned.events ≡ 0 → Rests W.meaning self.new) }
         ensures extends { Extends (marks_in self.old) (marks_in self.new) }
         ensures nothing { budget ≡ 0 → marks_in self.new ≡ marks_in self.old }
+        ensures lanes { budget ≡ 0 → LanesOnlyEnd self.old self.new }
         ensures looked { OnErr result (HasTurned W.meaning 0 self.old self.new) }
         ensures kept { OnErr result (marks_in self.new ≡ marks_in self.old) }
         ensures ended { IfOk result (λ turned. turned.state ≡ Ended → HasEnded self.new) }

@@ -51,8 +51,11 @@ pub struct BlockTask<W: Runs> {
     pub(crate) at: Station,
     /// What it knows of the cell in which it tells how its block has ended.
     pub(crate) note: Note<Outcome>,
+    /// Whether it knows that this is told there.
+    pub(crate) told: bool,
     ghost there: { number < length (layout_of of.value.rest.plan).blocks },
     ghost noted: { IsNoteOf of.value number note.cell },
+    ghost knows: { told ≡ is_some note.known },
     ghost law: { ∥ NodeLaw (layout_of of.value.rest.plan) (works_of W.meaning (layout_of of.value.rest.plan)) number node ∥₁ },
     ghost outs_know: { map out_known outs.items ≡ outs_due (layout_of of.value.rest.plan) of.value.wires.items number node } by { Prim.hlevel (codes, table_id_coded, content.the_row.coded) },
     ghost ins_know: { map (λ port. map in_known port.items) ins.items ≡ ins_due (layout_of of.value.rest.plan) of.value.wires.items number node } by { Prim.hlevel (codes, table_id_coded, content.the_row.coded) },

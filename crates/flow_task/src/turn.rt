@@ -1,14 +1,14 @@
 //! Turns of a block. All its ends look, and then it goes once round: the ends into it make their moves, it does what it can by itself,
 //! and the ends out of it make their moves. So a turn costs as much as the block has ends and does events, however many ends each event
 //! has beside its own. A turn that has no event left says where the next one goes on.
-ghost use Rattle.std.specs.Prelude.{◌≡◌, ℕ, ◌<◌, ◌≤◌, true, false, length, Some, IfOk, OnOk, OnErr};
+ghost use Rattle.std.specs.Prelude.{◌≡◌, ℕ, ◌<◌, ◌≤◌, true, false, is_some, length, Some, IfOk, OnOk, OnErr};
 ghost use Rattle.flow_block.specs.Node.{next_in};
 ghost use Rattle.flow_core.specs.MovesFit.{out_count, in_count};
 ghost use Rattle.flow_poll.specs.Turns.{Extends};
 ghost use Rattle.flow_poll.specs.declared.actor.TurnState.TheVariants.{Ended};
 ghost use Rattle.flow_task.specs.Cells.{is_same_end, is_told, last_outcome};
 ghost use Rattle.flow_task.specs.Events.{AllLook, Does, HasEvent, HasLooked, Spends, TurnsBy};
-ghost use Rattle.flow_task.specs.Turns.{InIsStill, IsOver, IsStill, LooksIn, LooksOut, OutIsStill, OwnIsDone, PortIsStill, PortsLook, are_links_over, state_of};
+ghost use Rattle.flow_task.specs.Turns.{InIsStill, IsOver, IsStill, LooksIn, LooksOut, OutIsStill, OwnIsDone, PortIsStill, PortsLook, are_links_over, has_done, state_of};
 
 use crate::board::Board;
 use crate::gate::{Gate, JobPolicy};
@@ -43,7 +43,7 @@ impl<W: Runs> BlockTask<W> {
     /// Turns the block: it looks at each of its links, and does what comes next, at most so many events. It answers that there is
     /// nothing to do only where it has looked and gone all the way round. Where memory is out before the first event, its ends have
     /// looked at most; later, the turn ends with the events that are done. An event that needs a message id where none is left is not
-    /// done, and the rest goes on. It has ended once the block has stopped, as its last mark says, all its links are refused or ended,
+    /// done, and the rest goes on. It has moved where an event was done, or it told how its block has ended. It has ended once the block has stopped, as its last mark says, all its links are refused or ended,
     /// and its watches can know how it has stopped. It does its jobs itself only where they are done in place.
     pub fn turn<G: Gate>(
         &mut self,
@@ -64,32 +64,36 @@ impl<W: Runs> BlockTask<W> {
             ∥ TurnsBy AllLook (HasEvent (makes_of W.meaning self.old)) turned.events self.old.node self.new.node ∥₁) }
         ensures all_look { IfOk result (λ turned. turned.events ≡ 0 → AllLook self.old.node self.new.node) }
         ensures idle { IfOk result (λ turned. turned.events ≡ 0 → journal_of self.new ≡ journal_of self.old) }
-        ensures state { IfOk result (λ turned. turned.state ≡ state_of turned.events self.new.note.known self.new.node) }
+        ensures state { IfOk result (λ turned. turned.state ≡
+            state_of (has_done turned.events (is_some self.old.note.known) self.new.note.known) self.new.note.known self.new.node) }
         ensures ended { IfOk result (λ turned. turned.state ≡ Ended → IsOver (journal_of self.new)) }
         ensures links { IfOk result (λ turned. turned.state ≡ Ended → are_links_over self.new.node ≡ true) }
         ensures told { IfOk result (λ turned. turned.state ≡ Ended → self.new.note.known ≡ last_outcome (journal_of self.new)) }
         ensures still { IfOk result (λ turned. 0 < budget → turned.events ≡ 0 → IsStill (makes_of W.meaning self.new) self.new.node policy.now.in_place) }
     {
+        let before = self.told;
         self.look_ins(board);
         self.look_outs(board);
         let mut left = budget;
         match self.go_round(alloc, board, policy, &mut left) {
-            Ok(()) => self.end_turn(alloc, board, budget - left),
+            Ok(()) => self.end_turn(alloc, board, budget - left, before),
             Err(fault) => {
                 if left == budget {
                     return Err(fault);
                 }
-                Ok(self.turned(budget - left, false))
+                Ok(self.turned(budget - left, before, false))
             }
         }
     }
 
-    /// It tells how its block has ended, if it has. Where memory is out for that and no event was done, the turn is refused.
+    /// It tells how its block has ended, if it has. Where memory is out for that and no event was done, the turn is refused. `before` says
+    /// whether it was told before the turn.
     fn end_turn(
         &mut self,
         alloc: Global,
         board: &Board<W>,
         events: u32,
+        before: bool,
     ) -> Result<Turned, AllocError>
         requires of { self.old.of.value ≡ board.now }
         ensures of { self.new.of.value ≡ self.old.of.value }
@@ -97,18 +101,19 @@ impl<W: Runs> BlockTask<W> {
         ensures node { self.new.node ≡ self.old.node }
         ensures events { IfOk result (λ turned. turned.events ≡ events) }
         ensures none { OnErr result (events ≡ 0) }
-        ensures state { IfOk result (λ turned. turned.state ≡ state_of turned.events self.new.note.known self.new.node) }
+        ensures state { IfOk result (λ turned. turned.state ≡
+            state_of (has_done turned.events before self.new.note.known) self.new.note.known self.new.node) }
         ensures ended { IfOk result (λ turned. turned.state ≡ Ended → IsOver (journal_of self.new)) }
         ensures links { IfOk result (λ turned. turned.state ≡ Ended → are_links_over self.new.node ≡ true) }
         ensures told { IfOk result (λ turned. turned.state ≡ Ended → self.new.note.known ≡ last_outcome (journal_of self.new)) }
     {
         match self.tell_end(alloc, board) {
-            Ok(told) => Ok(self.turned(events, told)),
+            Ok(told) => Ok(self.turned(events, before, told)),
             Err(fault) => {
                 if events == 0 {
                     return Err(fault);
                 }
-                Ok(self.turned(events, false))
+                Ok(self.turned(events, before, false))
             }
         }
     }
@@ -125,27 +130,29 @@ impl<W: Runs> BlockTask<W> {
             return Ok(false);
         };
         let cell = &board.cells[self.number];
-        if cell.get_as(&mut self.note).is_none() {
+        if !self.told {
             let told = Box::new(alloc, outcome)?;
             drop(cell.set_as(told, &mut self.note));
+            self.told = true;
         }
         match cell.get_as(&mut self.note) {
             Some(told) => Ok(is_same_end(*told, outcome)),
-            None => Ok(false),
+            None => unreachable!(),
         }
     }
 
-    /// What comes of a turn in which so many events were done. Where none was, `told` says whether its watches can know how the block has
-    /// ended.
-    fn turned(&self, events: u32, told: bool) -> Turned
+    /// What comes of a turn in which so many events were done. `before` says whether it was told before how the block has ended. Where that
+    /// was not told now and no event was done, `told` says whether its watches can know it.
+    fn turned(&self, events: u32, before: bool, told: bool) -> Turned
         requires { events ≡ 0 → told ≡ is_told self.now.note.known self.now.node.block.stopped }
         ensures events { result.events ≡ events }
-        ensures state { result.state ≡ state_of result.events self.now.note.known self.now.node }
+        ensures state { result.state ≡
+            state_of (has_done result.events before self.now.note.known) self.now.note.known self.now.node }
         ensures ended { result.state ≡ Ended → IsOver (journal_of self.now) }
         ensures links { result.state ≡ Ended → are_links_over self.now.node ≡ true }
         ensures told { result.state ≡ Ended → self.now.note.known ≡ last_outcome (journal_of self.now) }
     {
-        if events > 0 {
+        if events > 0 || (!before && self.told) {
             return Turned {
                 events,
                 state: TurnState::Moved,

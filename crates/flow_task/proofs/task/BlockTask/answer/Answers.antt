@@ -142,6 +142,7 @@ invariant_of-self-2 g c =
     record {
       there = s.there;
       noted = s.noted;
+      knows = s.knows;
       law = in_law layout works wires s.number plan.well_formed s.there s.node s.law port place c.requires.port c.requires.there seen new step;
       outs_know = s.outs_know
           ∙ in_outs layout works wires s.number plan.well_formed s.there s.node s.law port place c.requires.port c.requires.there seen new step;

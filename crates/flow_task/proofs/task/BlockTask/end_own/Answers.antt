@@ -66,6 +66,7 @@ invariant_of-self g c =
     record {
       there = s.there;
       noted = s.noted;
+      knows = s.knows;
       law = own_law layout works s.number wires s.node new s.law step;
       outs_know = s.outs_know ∙ own_outs layout works s.number wires s.node new s.law step;
       ins_know = s.ins_know ∙ own_ins layout works s.number wires s.node new s.law step;

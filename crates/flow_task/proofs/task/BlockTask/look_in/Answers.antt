@@ -75,6 +75,7 @@ invariant_of-self g c =
     record {
       there = s.there;
       noted = s.noted;
+      knows = s.knows;
       law = in_law layout works wires s.number plan.well_formed s.there s.node s.law port place c.requires.port c.requires.there seen new step;
       outs_know = s.outs_know
           ∙ in_outs layout works wires s.number plan.well_formed s.there s.node s.law port place c.requires.port c.requires.there seen new step;

@@ -52,6 +52,7 @@ invariant_of-self g c =
     record {
       there = s.there;
       noted = s.noted;
+      knows = s.knows;
       law = out_law layout works wires s.number plan.well_formed s.there s.node s.law place c.requires.there seen new step;
       outs_know = out_outs layout works wires s.number plan.well_formed s.there s.node s.law place c.requires.there seen new step s.outs.items
           c.look-phase.new.self s.outs_know

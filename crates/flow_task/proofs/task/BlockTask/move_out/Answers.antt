@@ -94,6 +94,7 @@ invariant_of-self-2 g c =
     record {
       there = s.there;
       noted = s.noted;
+      knows = s.knows;
       law = out_law layout works wires s.number plan.well_formed s.there s.node s.law place c.requires.there seen new step;
       outs_know = out_outs layout works wires s.number plan.well_formed s.there s.node s.law place c.requires.there seen new step s.outs.items
           c.write_source.new.end s.outs_know

@@ -145,6 +145,7 @@ invariant_of-self g c =
     record {
       there = s.there;
       noted = s.noted;
+      knows = s.knows;
       law = in_law layout works wires s.number plan.well_formed s.there s.node s.law port place c.requires.port c.requires.there seen new step;
       outs_know = s.outs_know
           ∙ in_outs layout works wires s.number plan.well_formed s.there s.node s.law port place c.requires.port c.requires.there seen new step;
@@ -164,6 +165,7 @@ invariant_of-self-else-won g c =
     record {
       there = s.there;
       noted = s.noted;
+      knows = s.knows;
       law = s.law;
       outs_know = s.outs_know;
       ins_know = map-set_same (λ port. map in_known port.items) s.ins.items c.args.port (with_item row c.args.place changed) row

@@ -57,6 +57,6 @@ returns-in-Ok-clause-rests g c =
     let last = c.use_lanes.new.self in
     let makes = (λ (board : Board _) (n : ℕ). block_makes (layout_of board.rest.plan) (works_of g.W.Runs.meaning (layout_of board.rest.plan)) n) in
     rest_then (makes last.of.value last.number) (makes t.of.value t.number) _ c.args.budget c.in_ok-turned.turned.events c.use_lanes.new.left _
-    t.node last.node c.in_ok-turned.turned.state t.note.known c.use_lanes.new.lanes c.end_lanes.new.lanes
+    t.node last.node _ c.in_ok-turned.turned.state t.note.known c.use_lanes.new.lanes c.end_lanes.new.lanes
     (sym (ap₂ makes c.use_lanes.ensures.of c.use_lanes.ensures.number)) c.in_ok-turned.ensures.within c.end_lanes.ensures.events
     c.use_lanes.ensures.spends c.in_ok-turned.ensures.state c.in-Ok.ensures.rests c.end_lanes.ensures.lanes

@@ -3,12 +3,13 @@ use Rattle.flow_task.specs.Events.{Spends}
 use Rattle.flow_task.specs.Tasks.{makes_of}
 use Rattle.flow_task.proofs.task.BlockTask.use_lanes.Given as goal
 
--- it is the same block, and this was spent
+-- it is the same block, this was spent, and where there is nothing to spend the lanes are as they were
 abbrev pub invariant-loop-left : goal.invariant-loop-left
 invariant-loop-left g l = record {
   of : l.self.of.value ≡ l.fn.self.of.value;
   number : l.self.number ≡ l.fn.self.number;
   note : l.self.note ≡ l.fn.self.note;
+  unused : l.fn.left ≡ 0 → l.lanes ≡ l.fn.lanes;
   spends : Spends (makes_of g.W.Runs.meaning l.fn.self) l.fn.left l.left l.fn.self.node l.self.node;
 }
 

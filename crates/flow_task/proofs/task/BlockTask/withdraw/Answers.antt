@@ -89,6 +89,7 @@ invariant_of-self g c =
     record {
       there = s.there;
       noted = s.noted;
+      knows = s.knows;
       law = out_law layout works wires s.number plan.well_formed s.there s.node s.law place c.requires.there seen new step;
       outs_know = out_outs layout works wires s.number plan.well_formed s.there s.node s.law place c.requires.there seen new step s.outs.items
           c.withdraw-won.new.end s.outs_know
@@ -105,6 +106,7 @@ invariant_of-self-else-won g c =
     record {
       there = s.there;
       noted = s.noted;
+      knows = s.knows;
       law = s.law;
       outs_know = map-set_same out_known s.outs.items c.args.place c.withdraw-won.new.end end
           (c.withdraw-won.ensures.not_done lost ∙ ap out_known c.index_mut.ensures.value) ∙ s.outs_know;
