@@ -35,6 +35,7 @@ pub mod LanesAreFew
 pub mod LinkOnce
 pub mod LinksFound
 pub mod Makes
+pub mod Misses
 pub mod NodesCross
 pub mod NodesShare
 pub mod NumbersOfParts

@@ -1,12 +1,15 @@
 -- What a block spends of its events: what was done one after another, in all; and that nothing is left to do where nothing was spent.
 use Rattle.std.proofs.Common.{◌≡◌, ℕ, zero, suc, ◌+◌, ◌-◌, ◌<◌, Bool, true, false, List, length, Result, Ok, Err, OnOk, OnErr, refl, sym, ◌∙◌, subst, arith}
 use Rattle.std.specs.declared.alloc.AllocError.{AllocError}
+use Rattle.std.specs.declared.alloc.Global.{Global}
+use Rattle.std.specs.declared.vec.Vec.{Vec}
 use Rattle.std.proofs.Math.Logic.{∥∥₁_elim, ∥∥₁_map, ∥∥₁_prop}
 use Rattle.std.proofs.lemmas.Grind.{merely}
 use Rattle.flow_value.specs.declared.value.Value.{Value}
 use Rattle.flow_block.specs.Node.{NodeState}
 use Rattle.flow_core.specs.MovesFit.{out_count}
 use Rattle.flow_poll.specs.Turns.{Extends}
+use Rattle.flow_wire.specs.Ends.{SourceOf, TargetOf}
 use Rattle.flow_poll.proofs.EachGoes.{extends_itself, extends_further}
 use Rattle.flow_task.specs.Events.{AllLook, Does, HasEvent, Spends, TurnsBy}
 use Rattle.flow_task.specs.Turns.{IsStill, OutIsStill, OwnIsDone, PortIsStill}
@@ -106,30 +109,33 @@ where_failed (Ok value) goes said = tt
 where_failed (Err fault) goes said = goes said
 
 -- what holds where nothing was spent holds of the node as it was
-pub outs_before : {makes makes' : Value → Result (List Value) ℕ} (most more less : ℕ) (first second last : NodeState)
+pub outs_before : {makes makes' : Value → Result (List Value) ℕ} (most more less : ℕ) (first second last : NodeState) (outs : List SourceOf)
     → Spends makes most more first second → Spends makes' more less second last
-    → (0 < more → less ≡ more → (k : ℕ) → k < out_count second → OutIsStill k second)
-    → 0 < most → less ≡ most → (k : ℕ) → k < out_count first → OutIsStill k first
-outs_before most more less first second last one other still some same =
+    → (0 < more → less ≡ more → (k : ℕ) → k < out_count second → OutIsStill k second outs)
+    → 0 < most → less ≡ most → (k : ℕ) → k < out_count first → OutIsStill k first outs
+outs_before most more less first second last outs one other still some same =
     let mid = as_many_first one other same in
-    subst (λ (node : NodeState). (k : ℕ) → k < out_count node → OutIsStill k node) (one.kept mid)
+    subst (λ (node : NodeState). (k : ℕ) → k < out_count node → OutIsStill k node outs) (one.kept mid)
     (still (omega (arith, some, mid)) (as_many_then one other same))
 
--- all that a round tries
+-- all that a round tries; the ends into the block are as they were left
 pub gone_round : (most more less : ℕ) (makes makes' : Value → Result (List Value) ℕ) (in_place : Bool) (first second last : NodeState)
-    → makes' ≡ makes
+    (tried ins : List (Vec TargetOf Global)) (outs : List SourceOf)
+    → makes' ≡ makes → ins ≡ tried
     → Spends makes most more first second → Spends makes' more less second last
-    → (more ≡ most → (p : ℕ) → p < length first.block.ports → PortIsStill p first)
+    → (more ≡ most → (p : ℕ) → p < length first.block.ports → PortIsStill p first tried)
     → (0 < more → less ≡ more → OwnIsDone makes' second in_place)
-    → (0 < more → less ≡ more → (k : ℕ) → k < out_count second → OutIsStill k second)
-    → 0 < most → less ≡ most → IsStill makes first in_place
-gone_round most more less makes makes' in_place first second last alike one other ins own outs some same =
+    → (0 < more → less ≡ more → (k : ℕ) → k < out_count second → OutIsStill k second outs)
+    → 0 < most → less ≡ most → IsStill makes first in_place ins outs
+gone_round most more less makes makes' in_place first second last tried ins outs alike left one other at_ins own at_outs some same =
     let mid = as_many_first one other same in
     let later = as_many_then one other same in
     let more_than_none : 0 < more = omega (arith, some, mid) in
     record {
       own = subst (λ (node : NodeState). OwnIsDone makes node in_place) (one.kept mid)
           (subst (λ (m : Value → Result (List Value) ℕ). OwnIsDone m second in_place) alike (own more_than_none later));
-      ins = ins mid;
-      outs = subst (λ (node : NodeState). (k : ℕ) → k < out_count node → OutIsStill k node) (one.kept mid) (outs more_than_none later);
+      at_ins = subst (λ (its : List (Vec TargetOf Global)). (p : ℕ) → p < length first.block.ports → PortIsStill p first its) (sym left)
+          (at_ins mid);
+      at_outs = subst (λ (node : NodeState). (k : ℕ) → k < out_count node → OutIsStill k node outs) (one.kept mid)
+          (at_outs more_than_none later);
     }

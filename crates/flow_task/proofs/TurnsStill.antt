@@ -31,11 +31,11 @@ event_from makes makes' did first old new said same from does =
     does_from (Ok true) makes makes' first old new same from (subst (λ (b : Bool). Does makes' (Ok b) old new) said does)
 
 -- the move that was found is the one that came too late
-pub missed : (result : Result Bool AllocError) (found : Option Move) (next : Move) (Late : Move → Type 0) → found ≡ Some next
-    → IfOk result (λ moved. moved ≡ false → Late next)
-    → IfOk result (λ did. did ≡ false → (other : Move) → found ≡ Some other → Late other)
-missed (Ok did) found next Late is late = λ not other finds. subst Late (some_is (sym is ∙ finds)) (late not)
-missed (Err fault) found next Late is late = tt
+pub missed : (result : Result Bool AllocError) (found : Option Move) (next : Move) (Late : Move → Type 0) (Tried : Type 0) → found ≡ Some next
+    → IfOk result (λ moved. moved ≡ false → Late next) → IfOk result (λ moved. moved ≡ false → Tried)
+    → IfOk result (λ did. did ≡ false → (other : Move) → found ≡ Some other → Late other × Tried)
+missed (Ok did) found next Late Tried is late tried = λ not other finds. (subst Late (some_is (sym is ∙ finds)) (late not), tried not)
+missed (Err fault) found next Late Tried is late tried = tt
 
 -- the job that was tried lacks an id
 pub jobs_done : {A : Type 0} (result : Result Bool AllocError) (done : Result A OutletFault) (makes : Value → Result (List Value) ℕ)

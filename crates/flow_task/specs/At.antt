@@ -10,7 +10,7 @@ use Rattle.flow_apart.specs.Sights.{sight_of}
 use Rattle.flow_task.specs.Ended.{HasEnded}
 use Rattle.flow_task.specs.Parts.{entry_number, exit_number, exit_state, task_number, watched_block}
 use Rattle.flow_task.specs.Rests.{HasState, Rests}
-use Rattle.flow_task.specs.TaskTurns.{HasTurned, LanesOnlyEnd}
+use Rattle.flow_task.specs.TaskTurns.{HasLookedAll, HasTurned, LanesOnlyEnd}
 use Rattle.flow_task.specs.declared.board.Board.{Board}
 use Rattle.flow_task.specs.declared.numbered.Task.{Task}
 use Rattle.flow_task.specs.declared.numbered.Entry.{Entry}
@@ -118,6 +118,7 @@ module _ {W : Type 0} {w : _} {e : _} where
     pub happens : HasTurned meaning turned.events old task
     pub state : HasState turned.events turned.state old task
     pub lanes : budget ≡ 0 → LanesOnlyEnd old task
+    pub looked : turned.events ≡ 0 → HasLookedAll old task
     pub moved : 0 < turned.events → turned.state ≡ Moved
     pub ended : turned.state ≡ Ended → HasEnded task
     pub rests : 0 < budget → turned.events ≡ 0 → Rests meaning task

@@ -16,6 +16,7 @@ pub mod Laned
 pub mod Lanes
 pub mod Lefts
 pub mod Makes
+pub mod Misses
 pub mod Numbers
 pub mod Orders
 pub mod Parts

@@ -30,7 +30,7 @@ module _ {W : Type 0} {w : _} {e : _} where
   -- by what its ends know there is nothing to do, but what no message id is left for, and what its lanes have not done
   abbrev pub RestsBy : (W → Value → Result (List Value) WorkFault) → Kind W w e → Type 0
   RestsBy meaning (kind.Block task) =
-      IsStill (makes_of meaning task.block) task.block.node (is_none task.lanes)
+      IsStill (makes_of meaning task.block) task.block.node (is_none task.lanes) task.block.ins.items task.block.outs.items
       × ForSome task.lanes (λ lanes. LanesRest (makes_of meaning task.block) task.block.node lanes)
   RestsBy meaning (kind.Input task) = InputIsStill task.input
   RestsBy meaning (kind.Lane task) = is_working task.its.lane.side.stage ≡ false

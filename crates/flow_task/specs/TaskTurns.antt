@@ -22,6 +22,16 @@ module _ {W : Type 0} {w : _} {e : _} (meaning : W → Value → Result (List Va
   HasTurned n old new = TurnedBy n old.kind new.kind
 
 module _ {W : Type 0} {w : _} {e : _} where
+  -- all ends of its links looked, and nothing else was done to its block or its input; what a lane did its state tells
+  abbrev pub LookedBy : Kind W w e → Kind W w e → Type 0
+  LookedBy (kind.Block old) (kind.Block new) = AllLook old.block.node new.block.node
+  LookedBy (kind.Input old) (kind.Input new) = InputLooks old.input new.input
+  LookedBy (kind.Lane old) (kind.Lane new) = Unit {0}
+  LookedBy _ _ = ⊥
+
+  abbrev pub HasLookedAll : Task W w e → Task W w e → Type 0
+  HasLookedAll old new = LookedBy old.kind new.kind
+
   -- nothing was done to the lanes of a block, but that those in which nothing was are ended
   abbrev pub LanesEndBy : Kind W w e → Kind W w e → Type 0
   LanesEndBy (kind.Block old) (kind.Block new) = OnlyEnd old.lanes new.lanes

@@ -1,6 +1,8 @@
 -- What the calls of a block leave of it, when it is turned, when it is over, and when it has nothing to do.
 use Rattle.std.specs.Prelude.{◌≡◌, ℕ, zero, suc, ◌<◌, ltb, cond, Bool, true, false, not, ◌&&◌, ◌||◌, List, [], ◌∷◌, length, Option, Some, None, is_none, is_some, Result, Ok, Err}
 use Rattle.std.specs.declared.alloc.AllocError.{AllocError}
+use Rattle.std.specs.declared.alloc.Global.{Global}
+use Rattle.std.specs.declared.vec.Vec.{Vec}
 use Rattle.flow_value.specs.declared.value.Value.{Value}
 use Rattle.flow_lists.specs.Lists.{every, below, is_empty}
 use Rattle.flow_link.specs.declared.phase.Move.{Move}
@@ -29,7 +31,9 @@ use Rattle.flow_moves.specs.Calls.{Calls}
 use Rattle.flow_poll.specs.Turns.{Extends}
 use Rattle.flow_poll.specs.declared.actor.TurnState.{TurnState}
 use Rattle.flow_poll.specs.declared.actor.TurnState.TheVariants as turn
+use Rattle.flow_wire.specs.Ends.{SourceOf, TargetOf}
 use Rattle.flow_task.specs.Cells.{is_told}
+use Rattle.flow_task.specs.Misses.{InMissed, OutMissed}
 use Rattle.flow_task.specs.Words.{is_withdrawal, may_be_forestalled}
 
 -- the end of a link into it moves so, and finds something in the slot or nothing
@@ -103,15 +107,17 @@ abbrev pub state_of : Bool → Option Outcome → NodeState → TurnState
 state_of done known node =
     cond done turn.Moved (cond (is_told known node.block.stopped && are_links_over node) turn.Ended turn.Idle)
 
--- the end of a link would make no move, but one that the other end has forestalled
-abbrev pub OutIsStill : ℕ → NodeState → Type 0
-OutIsStill k node = (next : Move) → next_source k node ≡ Some next → is_withdrawal next ≡ true
+-- the end of a link would make no move, but one that it has tried, and that the other end had forestalled
+abbrev pub OutIsStill : ℕ → NodeState → List SourceOf → Type 0
+OutIsStill k node outs = (next : Move) → next_source k node ≡ Some next → (is_withdrawal next ≡ true) × OutMissed outs k
 
-abbrev pub InIsStill : ℕ → ℕ → NodeState → Type 0
-InIsStill p k node = (next : Move) → next_in p k node ≡ Some next → may_be_forestalled next (stage_at k (port_at p node.block)) ≡ true
+abbrev pub InIsStill : ℕ → ℕ → NodeState → List (Vec TargetOf Global) → Type 0
+InIsStill p k node ins =
+    (next : Move) → next_in p k node ≡ Some next
+    → (may_be_forestalled next (stage_at k (port_at p node.block)) ≡ true) × InMissed ins p k
 
-abbrev pub PortIsStill : ℕ → NodeState → Type 0
-PortIsStill p node = (k : ℕ) → k < in_count p node → InIsStill p k node
+abbrev pub PortIsStill : ℕ → NodeState → List (Vec TargetOf Global) → Type 0
+PortIsStill p node ins = (k : ℕ) → k < in_count p node → InIsStill p k node ins
 
 -- a port runs on: it was not completed, and over no link into it completion or a fault has come
 abbrev pub runs_on : PortState → Bool
@@ -153,7 +159,7 @@ module _ (makes : Value → Result (List Value) ℕ) (node : NodeState) where
       pub open_yet : StaysOpen node.block
 
     -- and no end of its links makes a move
-    pub record IsStill : Type 0 where
+    pub record IsStill (ins : List (Vec TargetOf Global)) (outs : List SourceOf) : Type 0 where
       pub own : OwnIsDone
-      pub ins : (p : ℕ) → p < length node.block.ports → PortIsStill p node
-      pub outs : (k : ℕ) → k < out_count node → OutIsStill k node
+      pub at_ins : (p : ℕ) → p < length node.block.ports → PortIsStill p node ins
+      pub at_outs : (k : ℕ) → k < out_count node → OutIsStill k node outs

@@ -57,6 +57,7 @@ impl<W: Runs> InputTask<W> {
         ensures ended { IfOk result (λ turned. turned.state ≡ Ended → is_over self.new.input.stage ≡ true) }
         ensures still { IfOk result (λ turned. 0 < budget → turned.events ≡ 0 → InputIsStill self.new.input) }
         ensures happens { IfOk result (λ turned. ∥ TurnsBy InputLooks InputHappens turned.events self.old.input self.new.input ∥₁) }
+        ensures all_look { IfOk result (λ turned. turned.events ≡ 0 → InputLooks self.old.input self.new.input) }
         ensures looked { OnErr result (∥ HasLooked InputLooks self.old.input self.new.input ∥₁) }
         ensures kept { OnErr result (self.new.input.sent ≡ self.old.input.sent) }
     {
@@ -106,6 +107,7 @@ impl<W: Runs> InputTask<W> {
         ensures of { self.new.of.value ≡ self.old.of.value }
         ensures link { self.new.link ≡ self.old.link }
         ensures still { IfOk result (λ did. did ≡ false → InputIsStill self.new.input) }
+        ensures none { IfOk result (λ did. did ≡ false → self.new.input ≡ self.old.input) }
         ensures steps { StepsBy InputLooks InputHappens result self.old.input self.new.input }
         ensures kept { OnErr result (self.new.input.sent ≡ self.old.input.sent) }
     {

@@ -40,6 +40,8 @@ impl<W: Runs> BlockTask<W> {
         requires of { self.old.of.value ≡ board.now }
         ensures of { self.new.of.value ≡ self.old.of.value }
         ensures number { self.new.number ≡ self.old.number }
+        ensures ins { self.new.ins ≡ self.old.ins }
+        ensures outs { self.new.outs ≡ self.old.outs }
         ensures note { self.new.note ≡ self.old.note }
         ensures spends { Spends (makes_of W.meaning self.old) left.old left.new self.old.node self.new.node }
         ensures rests { OnOk result (0 < left.old → left.new ≡ left.old → LanesRest (makes_of W.meaning self.old) self.old.node lanes.new) }
@@ -65,6 +67,8 @@ impl<W: Runs> BlockTask<W> {
         requires of { self.old.of.value ≡ board.now }
         ensures of { self.new.of.value ≡ self.old.of.value }
         ensures number { self.new.number ≡ self.old.number }
+        ensures ins { self.new.ins ≡ self.old.ins }
+        ensures outs { self.new.outs ≡ self.old.outs }
         ensures note { self.new.note ≡ self.old.note }
         ensures does { Does (makes_of W.meaning self.old) result self.old.node self.new.node }
         ensures rests { IfOk result (λ did. did ≡ false → LanesRest (makes_of W.meaning self.old) self.old.node lanes.new) }
@@ -90,6 +94,8 @@ impl<W: Runs> BlockTask<W> {
         requires of { self.old.of.value ≡ board.now }
         ensures of { self.new.of.value ≡ self.old.of.value }
         ensures number { self.new.number ≡ self.old.number }
+        ensures ins { self.new.ins ≡ self.old.ins }
+        ensures outs { self.new.outs ≡ self.old.outs }
         ensures note { self.new.note ≡ self.old.note }
         ensures does { Does (makes_of W.meaning self.old) result self.old.node self.new.node }
         ensures still { IfOk result (λ did. did ≡ false → JobsEndInPlace (makes_of W.meaning self.old) self.old.node lanes.now) }
@@ -104,6 +110,8 @@ impl<W: Runs> BlockTask<W> {
     fn begin_in_lane(&mut self, alloc: Global, lanes: &mut JobLanes<W>) -> Result<bool, AllocError>
         ensures of { self.new.of.value ≡ self.old.of.value }
         ensures number { self.new.number ≡ self.old.number }
+        ensures ins { self.new.ins ≡ self.old.ins }
+        ensures outs { self.new.outs ≡ self.old.outs }
         ensures note { self.new.note ≡ self.old.note }
         ensures does { Does (makes_of W.meaning self.old) result self.old.node self.new.node }
         ensures put { result ≡ Ok true → list_any (has_ticket (next_ticket self.old.node.block)) lanes.new.sides ≡ true }
@@ -130,6 +138,8 @@ impl<W: Runs> BlockTask<W> {
         requires of { self.old.of.value ≡ board.now }
         ensures of { self.new.of.value ≡ self.old.of.value }
         ensures number { self.new.number ≡ self.old.number }
+        ensures ins { self.new.ins ≡ self.old.ins }
+        ensures outs { self.new.outs ≡ self.old.outs }
         ensures note { self.new.note ≡ self.old.note }
         ensures does { Does (makes_of W.meaning self.old) result self.old.node self.new.node }
         ensures own { OwnJobsStay W.eq (layout_of self.old.of.value.rest.plan) self.old.number (makes_of W.meaning self.old) self.old.node self.new.node lanes.old lanes.new }
@@ -159,6 +169,8 @@ impl<W: Runs> BlockTask<W> {
         requires of { self.old.of.value ≡ board.now }
         ensures of { self.new.of.value ≡ self.old.of.value }
         ensures number { self.new.number ≡ self.old.number }
+        ensures ins { self.new.ins ≡ self.old.ins }
+        ensures outs { self.new.outs ≡ self.old.outs }
         ensures note { self.new.note ≡ self.old.note }
         ensures takes { TakesBack (makes_of W.meaning self.old) (ticket_in (job_in done)) result self.old.node self.new.node }
         ensures back { IfErr result (λ refused. refused.0 ≡ done) }
@@ -181,6 +193,8 @@ impl<W: Runs> BlockTask<W> {
         requires own { IsOwnJob W.eq (layout_of self.old.of.value.rest.plan) self.old.number self.old.node (job_in done) }
         ensures of { self.new.of.value ≡ self.old.of.value }
         ensures number { self.new.number ≡ self.old.number }
+        ensures ins { self.new.ins ≡ self.old.ins }
+        ensures outs { self.new.outs ≡ self.old.outs }
         ensures note { self.new.note ≡ self.old.note }
         ensures takes { TakesBack (makes_of W.meaning self.old) (ticket_in (job_in done)) result self.old.node self.new.node }
         ensures back { IfErr result (λ refused. refused.0 ≡ done) }

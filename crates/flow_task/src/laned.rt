@@ -54,7 +54,9 @@ impl<W: Runs> LanedTask<W> {
         ensures links { IfOk result (λ turned. turned.state ≡ Ended → are_links_over self.new.block.node ≡ true) }
         ensures told { IfOk result (λ turned. turned.state ≡ Ended → self.new.block.note.known ≡ last_outcome (journal_of self.new.block)) }
         ensures still { IfOk result (λ turned. 0 < budget → turned.events ≡ 0 →
-            IsStill (makes_of W.meaning self.new.block) self.new.block.node (is_none self.new.lanes)) }
+            IsStill (makes_of W.meaning self.new.block) self.new.block.node (is_none self.new.lanes) self.new.block.ins.items
+            self.new.block.outs.items) }
+        ensures all_look { IfOk result (λ turned. turned.events ≡ 0 → AllLook self.old.block.node self.new.block.node) }
         ensures rests { IfOk result (λ turned. 0 < budget → turned.events ≡ 0 →
             ForSome self.new.lanes (λ lanes. LanesRest (makes_of W.meaning self.new.block) self.new.block.node lanes)) }
     {
@@ -98,7 +100,9 @@ impl<W: Runs> BlockTask<W> {
         ensures ended { IfOk result (λ turned. turned.state ≡ Ended → IsOver (journal_of self.new)) }
         ensures links { IfOk result (λ turned. turned.state ≡ Ended → are_links_over self.new.node ≡ true) }
         ensures told { IfOk result (λ turned. turned.state ≡ Ended → self.new.note.known ≡ last_outcome (journal_of self.new)) }
-        ensures still { IfOk result (λ turned. 0 < budget → turned.events ≡ 0 → IsStill (makes_of W.meaning self.new) self.new.node false) }
+        ensures still { IfOk result (λ turned. 0 < budget → turned.events ≡ 0 → IsStill (makes_of W.meaning self.new) self.new.node false
+            self.new.ins.items self.new.outs.items) }
+        ensures all_look { IfOk result (λ turned. turned.events ≡ 0 → AllLook self.old.node self.new.node) }
         ensures rests { IfOk result (λ turned. 0 < budget → turned.events ≡ 0 → LanesRest (makes_of W.meaning self.new) self.new.node lanes.new) }
     {
         let policy = JobPolicy {

@@ -52,7 +52,7 @@ impl<W: Runs> Task<W> {
     ghost use Rattle.flow_task.specs.Parts.{board_of, job_in, marks_in, task_number};
     ghost use Rattle.flow_task.specs.Ended.{HasEnded};
     ghost use Rattle.flow_task.specs.Rests.{HasState, Rests};
-    ghost use Rattle.flow_task.specs.TaskTurns.{HasTurned, LanesOnlyEnd};
+    ghost use Rattle.flow_task.specs.TaskTurns.{HasLookedAll, HasTurned, LanesOnlyEnd};
 
     /// The marks of its block, in order; an input has none, nor has a lane.
     pub fn journal(&self) -> &[Mark]
@@ -85,6 +85,7 @@ impl<W: Runs> Task<W> {
         ensures within { IfOk result (λ turned. turned.events ≤ budget) }
         ensures happens { IfOk result (λ turned. HasTurned W.meaning turned.events self.old self.new) }
         ensures state { IfOk result (λ turned. HasState turned.events turned.state self.old self.new) }
+        ensures all_look { IfOk result (λ turned. turned.events ≡ 0 → HasLookedAll self.old self.new) }
         ensures still { IfOk result (λ turned. 0 < budget → turned.events ≡ 0 → Rests W.meaning self.new) }
         ensures extends { Extends (marks_in self.old) (marks_in self.new) }
         ensures nothing { budget ≡ 0 → marks_in self.new ≡ marks_in self.old }
@@ -110,6 +111,7 @@ impl<W: Runs> Task<W> {
         ensures within { IfOk result (λ turned. turned.events ≤ budget) }
         ensures happens { IfOk result (λ turned. HasTurned W.meaning turned.events self.old self.new) }
         ensures state { IfOk result (λ turned. HasState turned.events turned.state self.old self.new) }
+        ensures all_look { IfOk result (λ turned. turned.events ≡ 0 → HasLookedAll self.old self.new) }
         ensures still { IfOk result (λ turned. 0 < budget → turned.events ≡ 0 → Rests W.meaning self.new) }
         ensures extends { Extends (marks_in self.old) (marks_in self.new) }
         ensures nothing { budget ≡ 0 → marks_in self.new ≡ marks_in self.old }

@@ -35,6 +35,8 @@ impl<W: Runs> BlockTask<W> {
         requires { may_make self.old.node.block ≡ true }
         ensures of { self.new.of.value ≡ self.old.of.value }
         ensures number { self.new.number ≡ self.old.number }
+        ensures ins { self.new.ins ≡ self.old.ins }
+        ensures outs { self.new.outs ≡ self.old.outs }
         ensures made { OnOk result (Calls (Some NodeCall.make) self.old.node self.new.node) }
         ensures kept { OnErr result (self.new.node ≡ self.old.node) }
         ensures used_up { result ≡ Err Ids → (makes : Value → Result (List Value) ℕ) → lacks_next makes self.old.node ≡ true }
@@ -47,6 +49,8 @@ impl<W: Runs> BlockTask<W> {
         requires { may_begin self.old.node.block ≡ true }
         ensures of { self.new.of.value ≡ self.old.of.value }
         ensures number { self.new.number ≡ self.old.number }
+        ensures ins { self.new.ins ≡ self.old.ins }
+        ensures outs { self.new.outs ≡ self.old.outs }
         ensures note { self.new.note ≡ self.old.note }
         ensures begun { OnOk result (Calls (Some NodeCall.begin) self.old.node self.new.node) }
         ensures kept { OnErr result (self.new.node ≡ self.old.node) }
@@ -66,6 +70,8 @@ impl<W: Runs> BlockTask<W> {
         requires out { may_end ticket self.old.node.block ≡ true }
         ensures of { self.new.of.value ≡ self.old.of.value }
         ensures number { self.new.number ≡ self.old.number }
+        ensures ins { self.new.ins ≡ self.old.ins }
+        ensures outs { self.new.outs ≡ self.old.outs }
         ensures note { self.new.note ≡ self.old.note }
         ensures ended { OnOk result (self.new.node ≡ after_job (block_makes (layout_of self.old.of.value.rest.plan)
             (works_of W.meaning (layout_of self.old.of.value.rest.plan)) self.old.number) ticket self.old.node) }
@@ -83,6 +89,8 @@ impl<W: Runs> BlockTask<W> {
         requires completes { may_complete port self.old.node.block ≡ true }
         ensures of { self.new.of.value ≡ self.old.of.value }
         ensures number { self.new.number ≡ self.old.number }
+        ensures ins { self.new.ins ≡ self.old.ins }
+        ensures outs { self.new.outs ≡ self.old.outs }
         ensures completed { OnOk result (Calls (Some (NodeCall.complete port)) self.old.node self.new.node) }
         ensures kept { OnErr result (self.new.node ≡ self.old.node) }
     {
@@ -94,6 +102,8 @@ impl<W: Runs> BlockTask<W> {
         requires { next_fault self.old.node.block ≡ Some number }
         ensures of { self.new.of.value ≡ self.old.of.value }
         ensures number { self.new.number ≡ self.old.number }
+        ensures ins { self.new.ins ≡ self.old.ins }
+        ensures outs { self.new.outs ≡ self.old.outs }
         ensures faulted { OnOk result (Calls (Some (NodeCall.fault number)) self.old.node self.new.node) }
         ensures kept { OnErr result (self.new.node ≡ self.old.node) }
     {
@@ -105,6 +115,8 @@ impl<W: Runs> BlockTask<W> {
         requires { may_finish self.old.node.block ≡ true }
         ensures of { self.new.of.value ≡ self.old.of.value }
         ensures number { self.new.number ≡ self.old.number }
+        ensures ins { self.new.ins ≡ self.old.ins }
+        ensures outs { self.new.outs ≡ self.old.outs }
         ensures finished { OnOk result (Calls (Some NodeCall.finish) self.old.node self.new.node) }
         ensures kept { OnErr result (self.new.node ≡ self.old.node) }
     {
@@ -122,6 +134,8 @@ impl<W: Runs> BlockTask<W> {
         requires of { self.old.of.value ≡ board.now }
         ensures of { self.new.of.value ≡ self.old.of.value }
         ensures number { self.new.number ≡ self.old.number }
+        ensures ins { self.new.ins ≡ self.old.ins }
+        ensures outs { self.new.outs ≡ self.old.outs }
         ensures does { Does (makes_of W.meaning self.old) result self.old.node self.new.node }
         ensures still { IfOk result (λ did. did ≡ false → OwnIsDone (makes_of W.meaning self.old) self.old.node policy.now.in_place) }
     {
@@ -145,6 +159,8 @@ impl<W: Runs> BlockTask<W> {
         requires of { self.old.of.value ≡ board.now }
         ensures of { self.new.of.value ≡ self.old.of.value }
         ensures number { self.new.number ≡ self.old.number }
+        ensures ins { self.new.ins ≡ self.old.ins }
+        ensures outs { self.new.outs ≡ self.old.outs }
         ensures does { Does (makes_of W.meaning self.old) result self.old.node self.new.node }
         ensures still { IfOk result (λ did. did ≡ false → WorkIsDone (makes_of W.meaning self.old) self.old.node policy.now.in_place) }
     {
@@ -161,6 +177,8 @@ impl<W: Runs> BlockTask<W> {
     fn make_once(&mut self, alloc: Global) -> Result<bool, AllocError>
         ensures of { self.new.of.value ≡ self.old.of.value }
         ensures number { self.new.number ≡ self.old.number }
+        ensures ins { self.new.ins ≡ self.old.ins }
+        ensures outs { self.new.outs ≡ self.old.outs }
         ensures does { Does (makes_of W.meaning self.old) result self.old.node self.new.node }
         ensures still { IfOk result (λ did. did ≡ false → MakeIsDone (makes_of W.meaning self.old) self.old.node) }
     {
@@ -181,6 +199,8 @@ impl<W: Runs> BlockTask<W> {
         requires of { self.old.of.value ≡ board.now }
         ensures of { self.new.of.value ≡ self.old.of.value }
         ensures number { self.new.number ≡ self.old.number }
+        ensures ins { self.new.ins ≡ self.old.ins }
+        ensures outs { self.new.outs ≡ self.old.outs }
         ensures note { self.new.note ≡ self.old.note }
         ensures does { Does (makes_of W.meaning self.old) result self.old.node self.new.node }
         ensures still { IfOk result (λ did. did ≡ false → JobsAreDone (makes_of W.meaning self.old) self.old.node) }
@@ -200,6 +220,8 @@ impl<W: Runs> BlockTask<W> {
     fn begin_once(&mut self) -> Result<bool, AllocError>
         ensures of { self.new.of.value ≡ self.old.of.value }
         ensures number { self.new.number ≡ self.old.number }
+        ensures ins { self.new.ins ≡ self.old.ins }
+        ensures outs { self.new.outs ≡ self.old.outs }
         ensures does { Does (makes_of W.meaning self.old) result self.old.node self.new.node }
         ensures still { IfOk result (λ did. did ≡ false → may_begin self.old.node.block ≡ false) }
     {
@@ -214,6 +236,8 @@ impl<W: Runs> BlockTask<W> {
     fn close(&mut self) -> Result<bool, AllocError>
         ensures of { self.new.of.value ≡ self.old.of.value }
         ensures number { self.new.number ≡ self.old.number }
+        ensures ins { self.new.ins ≡ self.old.ins }
+        ensures outs { self.new.outs ≡ self.old.outs }
         ensures does { Does (makes_of W.meaning self.old) result self.old.node self.new.node }
         ensures still { IfOk result (λ did. did ≡ false → StaysOpen self.old.node.block) }
     {

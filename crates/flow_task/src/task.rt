@@ -21,6 +21,7 @@ ghost use Rattle.flow_outlet.specs.Outlet.{end_at, stage_at as stage_over};
 ghost use Rattle.flow_spread.specs.Spread.{link_at, stage_at as copy_stage};
 ghost use Rattle.flow_task.specs.Cells.{IsNoteOf};
 ghost use Rattle.flow_task.specs.Known.{out_known, in_known, link_from, link_to, outs_due, ins_due};
+ghost use Rattle.flow_task.specs.Misses.{InMissed, InsMissStill, OutMissed, OutsMissStill};
 ghost use Rattle.flow_task.specs.Turns.{MovesIn};
 ghost use Rattle.flow_task.specs.Words.{is_withdrawal, may_be_forestalled, opens};
 
@@ -92,8 +93,11 @@ impl<W: Runs> BlockTask<W> {
         ensures number { self.new.number ≡ self.old.number }
         ensures moved { IfOk result (λ moved. moved ≡ true →
             Calls (source_call self.old.node.block.kind place next) self.old.node self.new.node) }
+        ensures ins { self.new.ins ≡ self.old.ins }
         ensures missed { IfOk result (λ moved. moved ≡ false → self.new.node ≡ self.old.node) }
         ensures late { IfOk result (λ moved. moved ≡ false → is_withdrawal next ≡ true) }
+        ensures tried { IfOk result (λ moved. moved ≡ false → OutMissed self.new.outs.items place) }
+        ensures others { IfOk result (λ moved. moved ≡ false → OutsMissStill self.old.outs.items self.new.outs.items) }
         ensures kept { OnErr result (self.new.node ≡ self.old.node) }
     {
         if next == Move::Withdraw {
@@ -113,8 +117,11 @@ impl<W: Runs> BlockTask<W> {
         requires next { next_source place self.old.node ≡ Some Withdraw }
         ensures of { self.new.of.value ≡ self.old.of.value }
         ensures number { self.new.number ≡ self.old.number }
+        ensures ins { self.new.ins ≡ self.old.ins }
         ensures won { result ≡ true → Calls (source_call self.old.node.block.kind place Withdraw) self.old.node self.new.node }
         ensures lost { result ≡ false → self.new.node ≡ self.old.node }
+        ensures tried { result ≡ false → OutMissed self.new.outs.items place }
+        ensures others { result ≡ false → OutsMissStill self.old.outs.items self.new.outs.items }
     {
         let header = header_out(stage_out(self.node.block(), place));
         let wire = self.wire_out(board, place);
@@ -171,6 +178,8 @@ impl<W: Runs> BlockTask<W> {
         ensures missed { IfOk result (λ moved. moved ≡ false → self.new.node ≡ self.old.node) }
         ensures late { IfOk result (λ moved. moved ≡ false →
             may_be_forestalled next (stage_at place (port_at port self.old.node.block)) ≡ true) }
+        ensures tried { IfOk result (λ moved. moved ≡ false → InMissed self.new.ins.items port place) }
+        ensures others { IfOk result (λ moved. moved ≡ false → InsMissStill self.old.ins.items self.new.ins.items) }
         ensures kept { OnErr result (self.new.node ≡ self.old.node) }
     {
         if next == Move::Open {
@@ -212,6 +221,8 @@ impl<W: Runs> BlockTask<W> {
         ensures number { self.new.number ≡ self.old.number }
         ensures won { result ≡ true → MovesIn port place next self.old.node self.new.node }
         ensures lost { result ≡ false → self.new.node ≡ self.old.node }
+        ensures tried { result ≡ false → InMissed self.new.ins.items port place }
+        ensures others { result ≡ false → InsMissStill self.old.ins.items self.new.ins.items }
     {
         let header = header_in(self.stage_in(port, place));
         let why = self.reason_at(port);

@@ -8,6 +8,7 @@ ghost use Rattle.flow_poll.specs.Turns.{Extends};
 ghost use Rattle.flow_poll.specs.declared.actor.TurnState.TheVariants.{Ended};
 ghost use Rattle.flow_task.specs.Cells.{is_same_end, is_told, last_outcome};
 ghost use Rattle.flow_task.specs.Events.{AllLook, Does, HasEvent, HasLooked, Spends, TurnsBy};
+ghost use Rattle.flow_task.specs.Misses.{InsMissStill, OutsMissStill};
 ghost use Rattle.flow_task.specs.Turns.{InIsStill, IsOver, IsStill, LooksIn, LooksOut, OutIsStill, OwnIsDone, PortIsStill, PortsLook, are_links_over, has_done, state_of};
 
 use crate::board::Board;
@@ -41,7 +42,8 @@ impl<W: Runs> BlockTask<W> {
     }
 
     /// Turns the block: it looks at each of its links, and does what comes next, at most so many events. It answers that there is
-    /// nothing to do only where it has looked and gone all the way round. Where memory is out before the first event, its ends have
+    /// nothing to do only where it has looked and gone all the way round, and each end that would take back, consume or ask has tried it and
+    /// missed. Where memory is out before the first event, its ends have
     /// looked at most; later, the turn ends with the events that are done. An event that needs a message id where none is left is not
     /// done, and the rest goes on. It has moved where an event was done, or it told how its block has ended. It has ended once the block has stopped, as its last mark says, all its links are refused or ended,
     /// and its watches can know how it has stopped. It does its jobs itself only where they are done in place.
@@ -69,7 +71,8 @@ impl<W: Runs> BlockTask<W> {
         ensures ended { IfOk result (λ turned. turned.state ≡ Ended → IsOver (journal_of self.new)) }
         ensures links { IfOk result (λ turned. turned.state ≡ Ended → are_links_over self.new.node ≡ true) }
         ensures told { IfOk result (λ turned. turned.state ≡ Ended → self.new.note.known ≡ last_outcome (journal_of self.new)) }
-        ensures still { IfOk result (λ turned. 0 < budget → turned.events ≡ 0 → IsStill (makes_of W.meaning self.new) self.new.node policy.now.in_place) }
+        ensures still { IfOk result (λ turned. 0 < budget → turned.events ≡ 0 → IsStill (makes_of W.meaning self.new) self.new.node policy.now.in_place
+            self.new.ins.items self.new.outs.items) }
     {
         let before = self.told;
         self.look_ins(board);
@@ -98,6 +101,8 @@ impl<W: Runs> BlockTask<W> {
         requires of { self.old.of.value ≡ board.now }
         ensures of { self.new.of.value ≡ self.old.of.value }
         ensures number { self.new.number ≡ self.old.number }
+        ensures ins { self.new.ins ≡ self.old.ins }
+        ensures outs { self.new.outs ≡ self.old.outs }
         ensures node { self.new.node ≡ self.old.node }
         ensures events { IfOk result (λ turned. turned.events ≡ events) }
         ensures none { OnErr result (events ≡ 0) }
@@ -123,6 +128,8 @@ impl<W: Runs> BlockTask<W> {
         requires of { self.old.of.value ≡ board.now }
         ensures of { self.new.of.value ≡ self.old.of.value }
         ensures number { self.new.number ≡ self.old.number }
+        ensures ins { self.new.ins ≡ self.old.ins }
+        ensures outs { self.new.outs ≡ self.old.outs }
         ensures node { self.new.node ≡ self.old.node }
         ensures told { IfOk result (λ told. told ≡ is_told self.new.note.known self.new.node.block.stopped) }
     {
@@ -183,7 +190,8 @@ impl<W: Runs> BlockTask<W> {
         ensures of { self.new.of.value ≡ self.old.of.value }
         ensures number { self.new.number ≡ self.old.number }
         ensures spends { Spends (makes_of W.meaning self.old) left.old left.new self.old.node self.new.node }
-        ensures still { OnOk result (0 < left.old → left.new ≡ left.old → IsStill (makes_of W.meaning self.old) self.new.node policy.now.in_place) }
+        ensures still { OnOk result (0 < left.old → left.new ≡ left.old → IsStill (makes_of W.meaning self.old) self.new.node policy.now.in_place
+            self.new.ins.items self.new.outs.items) }
     {
         let from_start = self.is_at_start();
         let before = *left;
@@ -217,7 +225,7 @@ impl<W: Runs> BlockTask<W> {
         ensures number { self.new.number ≡ self.old.number }
         ensures spends { Spends (makes_of W.meaning self.old) left.old left.new self.old.node self.new.node }
         ensures still { OnOk result (0 < left.old → left.new ≡ left.old → self.old.at ≡ Station.In 0 0 →
-            IsStill (makes_of W.meaning self.old) self.old.node policy.now.in_place) }
+            IsStill (makes_of W.meaning self.old) self.old.node policy.now.in_place self.new.ins.items self.new.outs.items) }
         ensures back { OnOk result (0 < left.old → left.new ≡ left.old → self.new.at ≡ Station.In 0 0) }
     {
         match self.at {
@@ -242,7 +250,7 @@ impl<W: Runs> BlockTask<W> {
         ensures number { self.new.number ≡ self.old.number }
         ensures spends { Spends (makes_of W.meaning self.old) left.old left.new self.old.node self.new.node }
         ensures still { OnOk result (0 < left.old → left.new ≡ left.old → port ≡ 0 → place ≡ 0 →
-            IsStill (makes_of W.meaning self.old) self.old.node policy.now.in_place) }
+            IsStill (makes_of W.meaning self.old) self.old.node policy.now.in_place self.new.ins.items self.new.outs.items) }
         ensures back { OnOk result (0 < left.old → left.new ≡ left.old → self.new.at ≡ Station.In 0 0) }
     {
         if self.move_ins(board, port, place, left)? {
@@ -262,10 +270,11 @@ impl<W: Runs> BlockTask<W> {
         requires of { self.old.of.value ≡ board.now }
         ensures of { self.new.of.value ≡ self.old.of.value }
         ensures number { self.new.number ≡ self.old.number }
+        ensures ins { self.new.ins ≡ self.old.ins }
         ensures spends { Spends (makes_of W.meaning self.old) left.old left.new self.old.node self.new.node }
         ensures own { OnOk result (0 < left.old → left.new ≡ left.old → OwnIsDone (makes_of W.meaning self.old) self.old.node policy.now.in_place) }
         ensures outs { OnOk result (0 < left.old → left.new ≡ left.old → (k : ℕ) → k < out_count self.old.node →
-            OutIsStill k self.old.node) }
+            OutIsStill k self.old.node self.new.outs.items) }
         ensures back { OnOk result (0 < left.old → left.new ≡ left.old → self.new.at ≡ Station.In 0 0) }
     {
         if self.act_on(alloc, board, policy, left)? {
@@ -285,6 +294,7 @@ impl<W: Runs> BlockTask<W> {
         requires of { self.old.of.value ≡ board.now }
         ensures of { self.new.of.value ≡ self.old.of.value }
         ensures number { self.new.number ≡ self.old.number }
+        ensures ins { self.new.ins ≡ self.old.ins }
         ensures spends { Spends (makes_of W.meaning self.old) left.old left.new self.old.node self.new.node }
         ensures still { IfOk result (λ all. all ≡ true → left.new ≡ left.old → OwnIsDone (makes_of W.meaning self.old) self.old.node policy.now.in_place) }
         ensures stops { IfOk result (λ all. all ≡ false → 0 < left.old → left.new < left.old) }
@@ -310,9 +320,10 @@ impl<W: Runs> BlockTask<W> {
         requires of { self.old.of.value ≡ board.now }
         ensures of { self.new.of.value ≡ self.old.of.value }
         ensures number { self.new.number ≡ self.old.number }
+        ensures ins { self.new.ins ≡ self.old.ins }
         ensures spends { Spends (makes_of W.meaning self.old) left.old left.new self.old.node self.new.node }
         ensures still { OnOk result (0 < left.old → left.new ≡ left.old → first ≡ 0 → (k : ℕ) → k < out_count self.old.node →
-            OutIsStill k self.old.node) }
+            OutIsStill k self.old.node self.new.outs.items) }
         ensures back { OnOk result (0 < left.old → left.new ≡ left.old → self.new.at ≡ Station.In 0 0) }
     {
         for place in first..self.outs.len() {
@@ -340,7 +351,7 @@ impl<W: Runs> BlockTask<W> {
         ensures number { self.new.number ≡ self.old.number }
         ensures spends { Spends (makes_of W.meaning self.old) left.old left.new self.old.node self.new.node }
         ensures still { IfOk result (λ all. all ≡ true → left.new ≡ left.old → first ≡ 0 → place ≡ 0 → (p : ℕ) →
-            p < length self.old.node.block.ports → PortIsStill p self.old.node) }
+            p < length self.old.node.block.ports → PortIsStill p self.old.node self.new.ins.items) }
         ensures stops { IfOk result (λ all. all ≡ false → 0 < left.old → left.new < left.old) }
     {
         for port in first as usize..self.node.block().port_count() {
@@ -365,7 +376,8 @@ impl<W: Runs> BlockTask<W> {
         ensures of { self.new.of.value ≡ self.old.of.value }
         ensures number { self.new.number ≡ self.old.number }
         ensures spends { Spends (makes_of W.meaning self.old) left.old left.new self.old.node self.new.node }
-        ensures still { IfOk result (λ all. all ≡ true → left.new ≡ left.old → first ≡ 0 → PortIsStill port self.old.node) }
+        ensures still { IfOk result (λ all. all ≡ true → left.new ≡ left.old → first ≡ 0 → PortIsStill port self.old.node self.new.ins.items) }
+        ensures others { IfOk result (λ all. left.new ≡ left.old → InsMissStill self.old.ins.items self.new.ins.items) }
         ensures stops { IfOk result (λ all. all ≡ false → 0 < left.old → left.new < left.old) }
     {
         for place in first..self.node.block().in_count(port as usize) {
@@ -393,7 +405,8 @@ impl<W: Runs> BlockTask<W> {
         ensures of { self.new.of.value ≡ self.old.of.value }
         ensures number { self.new.number ≡ self.old.number }
         ensures spends { Spends (makes_of W.meaning self.old) left.old left.new self.old.node self.new.node }
-        ensures still { OnOk result (left.new ≡ left.old → InIsStill port place self.old.node) }
+        ensures still { OnOk result (left.new ≡ left.old → InIsStill port place self.old.node self.new.ins.items) }
+        ensures others { OnOk result (left.new ≡ left.old → InsMissStill self.old.ins.items self.new.ins.items) }
     {
         match self.node.next_in(port as usize, place) {
             None => Ok(()),
@@ -450,8 +463,10 @@ impl<W: Runs> BlockTask<W> {
         requires left { 0 < left.old }
         ensures of { self.new.of.value ≡ self.old.of.value }
         ensures number { self.new.number ≡ self.old.number }
+        ensures ins { self.new.ins ≡ self.old.ins }
         ensures spends { Spends (makes_of W.meaning self.old) left.old left.new self.old.node self.new.node }
-        ensures still { OnOk result (left.new ≡ left.old → OutIsStill place self.old.node) }
+        ensures still { OnOk result (left.new ≡ left.old → OutIsStill place self.old.node self.new.outs.items) }
+        ensures others { OnOk result (left.new ≡ left.old → OutsMissStill self.old.outs.items self.new.outs.items) }
     {
         if self.try_out(alloc, board, place)? {
             *left -= 1;
@@ -505,8 +520,10 @@ impl<W: Runs> BlockTask<W> {
         requires there { place < out_count self.old.node }
         ensures of { self.new.of.value ≡ self.old.of.value }
         ensures number { self.new.number ≡ self.old.number }
+        ensures ins { self.new.ins ≡ self.old.ins }
         ensures does { Does (makes_of W.meaning self.old) result self.old.node self.new.node }
-        ensures still { IfOk result (λ did. did ≡ false → OutIsStill place self.old.node) }
+        ensures still { IfOk result (λ did. did ≡ false → OutIsStill place self.old.node self.new.outs.items) }
+        ensures others { IfOk result (λ did. did ≡ false → OutsMissStill self.old.outs.items self.new.outs.items) }
     {
         match next_of_exit(&self.node, place) {
             Some(next) => self.move_out(alloc, board, place, next),
@@ -522,7 +539,7 @@ impl<W: Runs> BlockTask<W> {
         ensures of { self.new.of.value ≡ self.old.of.value }
         ensures number { self.new.number ≡ self.old.number }
         ensures does { Does (makes_of W.meaning self.old) result self.old.node self.new.node }
-        ensures still { IfOk result (λ did. did ≡ false → InIsStill port place self.old.node) }
+        ensures still { IfOk result (λ did. did ≡ false → InIsStill port place self.old.node self.new.ins.items) }
     {
         match self.node.next_in(port as usize, place) {
             Some(next) => self.move_in(board, port, place, next),

@@ -4,6 +4,7 @@ ghost use Rattle.flow_outlet.specs.End.{id_of};
 ghost use Rattle.flow_task.specs.Known.{out_known, in_known};
 ghost use Rattle.flow_link.specs.Moves.{posting, withdrawing};
 ghost use Rattle.flow_core.specs.MovesFit.{has_arrived};
+ghost use Rattle.flow_task.specs.Misses.{HasMissedIn, HasMissedOut};
 ghost use Rattle.flow_task.specs.Words.{MayMoveOut, MayOffer, MayWithdraw, MayMoveIn, Stands, moved_out, moved_in, opened_so, header_of};
 ghost use Rattle.flow_task.specs.Words.{is_withdrawal, is_late, may_be_forestalled, opens};
 
@@ -131,6 +132,7 @@ pub(crate) fn withdraw(end: &mut SourceEnd, wire: &Wire, header: Option<MessageH
     requires may { MayWithdraw header end.old.side.view }
     ensures done { result ≡ true → out_known end.new ≡ record (out_known end.old) { view = withdrawing end.old.side.view } }
     ensures not_done { result ≡ false → out_known end.new ≡ out_known end.old }
+    ensures missed { result ≡ false → HasMissedOut end.new }
 {
     let Some(header) = header else { unreachable!() };
     end.withdraw(wire, header)
@@ -198,6 +200,7 @@ pub(crate) fn take_up(
     ensures done { result ≡ true → in_known end.new ≡
         record (in_known end.old) { view = moved_in next (Some why) None end.old.side.view } }
     ensures not_done { result ≡ false → in_known end.new ≡ in_known end.old }
+    ensures missed { result ≡ false → HasMissedIn end.new }
 {
     let Some(header) = header else { unreachable!() };
     match next {

@@ -1,4 +1,4 @@
-use Rattle.std.proofs.Common.{◌≡◌, ℕ, ◌<◌, length, get_or, refl, sym, ap, ◌∙◌, subst, arith}
+use Rattle.std.proofs.Common.{◌≡◌, ℕ, ◌<◌, get_or, refl, sym, ap, ◌∙◌, subst, arith}
 use Rattle.flow_link.specs.LinkOk.{LinkOk}
 use Rattle.flow_link.specs.Plan.{link_in}
 use Rattle.flow_link.specs.Planned.{layout_of}

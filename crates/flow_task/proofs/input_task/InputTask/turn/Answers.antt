@@ -14,6 +14,7 @@ loop-events-init g c =
       of = c.look.ensures.of;
       link = c.look.ensures.link;
       turned = merely (one_look InputLooks first c.look.new.self.input (record { phase = looked.0; leaves = looked.1 }));
+      first = λ none. record { phase = looked.0; leaves = looked.1 };
       kept = λ none. ap (λ (input : InputState). input.sent) looked.1 ∙ look_gives_nothing looked.0 first;
     }
 
@@ -31,6 +32,7 @@ loop-events-preserved g c =
       link = c.step.ensures.link ∙ i.link;
       turned = subst (λ (n : ℕ). ∥ TurnsBy InputLooks InputHappens n first new ∥₁) more
           (step_turns InputLooks InputHappens c.loop-events.events first old new i.turned steps);
+      first = λ none. absurd (omega (arith, none));
       kept = λ none. absurd (omega (arith, none));
     }
 

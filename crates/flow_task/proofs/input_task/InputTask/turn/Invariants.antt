@@ -8,5 +8,6 @@ invariant-loop-events g l = record {
   of : l.self.of.value ≡ l.fn.self.of.value;
   link : l.self.link ≡ l.fn.self.link;
   turned : ∥ TurnsBy InputLooks InputHappens l.events l.fn.self.input l.self.input ∥₁;
+  first : l.events ≡ 0 → InputLooks l.fn.self.input l.self.input;
   kept : l.events ≡ 0 → l.self.input.sent ≡ l.fn.self.input.sent;
 }

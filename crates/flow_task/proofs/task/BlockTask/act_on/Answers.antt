@@ -9,7 +9,7 @@ use Rattle.flow_task.proofs.task.BlockTask.act_on.Goals as goal
 pub loop-left-init : goal.loop-left-init
 loop-left-init g c =
     let node = c.args.self.now.node in
-    record { of = refl; number = refl; spends = spends_none _ c.args.left.now node node refl }
+    record { of = refl; number = refl; ins = refl; spends = spends_none _ c.args.left.now node node refl }
 
 pub loop-left-preserved : goal.loop-left-preserved
 loop-left-preserved g c =
@@ -23,6 +23,7 @@ loop-left-preserved g c =
     record {
       of = c.act.ensures.of ∙ i.of;
       number = c.act.ensures.number ∙ i.number;
+      ins = c.act.ensures.ins ∙ i.ins;
       spends = spends_more (makes s.of.value s.number) c.args.left.now left (left - 1) s.node t.node new i.spends
           (spends_did (makes s.of.value s.number) left c.in_ok-act.field-0 t.node new c.loop-left-test.true c.if-not-branch.false
           (does_so (Ok c.in_ok-act.field-0) t.node new same c.in_ok-act.ensures.does));

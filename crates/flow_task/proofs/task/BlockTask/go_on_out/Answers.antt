@@ -8,6 +8,7 @@ use Rattle.flow_task.specs.Turns.{OutIsStill}
 use Rattle.flow_task.specs.declared.board.Board.{Board}
 use Rattle.flow_block.specs.Planned.{block_makes}
 use Rattle.flow_task.proofs.Counts.{outs_alike}
+use Rattle.flow_task.proofs.Misses.{out_still_then}
 use Rattle.flow_task.proofs.Places.{count_is}
 use Rattle.flow_task.proofs.Spends.{as_many_first, as_many_then, spends_more, spends_none, spends_so}
 use Rattle.flow_task.proofs.task.BlockTask.go_on_out.Goals as goal
@@ -18,6 +19,7 @@ loop-place-init g c =
     record {
       of = refl;
       number = refl;
+      ins = refl;
       spends = spends_none _ c.args.left.now node node refl;
       still = λ as_many first k low. absurd (omega (arith, first, low));
     }
@@ -54,12 +56,17 @@ loop-place-preserved g c =
     record {
       of = said.of ∙ i.of;
       number = said.number ∙ i.number;
+      ins = said.ins ∙ i.ins;
       spends = spends_more (makes s.of.value s.number) c.args.left.now c.loop-place.left c.move_out_once.new.left old c.loop-place.self.node
           c.move_out_once.new.self.node i.spends
           (spends_so c.loop-place.left c.move_out_once.new.left c.loop-place.self.node c.move_out_once.new.self.node (ap₂ makes i.of i.number) said.spends);
       still = λ as_many first.
-          below_more (λ (k : ℕ). OutIsStill k old) here (i.still (as_many_first i.spends said.spends as_many) first)
-          (subst (λ (node : NodeState). OutIsStill here node) (i.spends.kept (as_many_first i.spends said.spends as_many))
+          let after = c.move_out_once.new.self.outs.items in
+          below_more (λ (k : ℕ). OutIsStill k old after) here
+          (λ k low. out_still_then k old c.loop-place.self.outs.items after
+          (c.in_ok-move_out_once.ensures.others (as_many_then i.spends said.spends as_many))
+          (i.still (as_many_first i.spends said.spends as_many) first k low))
+          (subst (λ (node : NodeState). OutIsStill here node after) (i.spends.kept (as_many_first i.spends said.spends as_many))
           (c.in_ok-move_out_once.ensures.still (as_many_then i.spends said.spends as_many)));
     }
 

@@ -9,6 +9,7 @@ abbrev pub invariant-loop-place : goal.invariant-loop-place
 invariant-loop-place g l = record {
   of : l.self.of.value ≡ l.fn.self.of.value;
   number : l.self.number ≡ l.fn.self.number;
+  ins : l.self.ins ≡ l.fn.self.ins;
   spends : Spends (makes_of g.W.Runs.meaning l.fn.self) l.fn.left l.left l.fn.self.node l.self.node;
-  still : l.left ≡ l.fn.left → l.first ≡ 0 → (k : ℕ) → k < l.place → OutIsStill k l.fn.self.node;
+  still : l.left ≡ l.fn.left → l.first ≡ 0 → (k : ℕ) → k < l.place → OutIsStill k l.fn.self.node l.self.outs.items;
 }

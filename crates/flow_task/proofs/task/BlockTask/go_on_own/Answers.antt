@@ -19,5 +19,5 @@ pub returns-then-branch-clause-outs : goal.returns-then-branch-clause-outs
 returns-then-branch-clause-outs g c =
     where_well c.go_on_out.result
     (λ said. outs_before c.args.left.now c.act_on.new.left c.go_on_out.new.left c.args.self.now.node c.act_on.new.self.node c.go_on_out.new.self.node
-    c.act_on.ensures.spends c.go_on_out.ensures.spends (λ some as_many. said some as_many refl))
+    c.go_on_out.new.self.outs.items c.act_on.ensures.spends c.go_on_out.ensures.spends (λ some as_many. said some as_many refl))
     c.go_on_out.ensures.still

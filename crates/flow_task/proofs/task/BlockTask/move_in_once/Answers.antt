@@ -6,6 +6,7 @@ use Rattle.flow_intake.specs.Port.{stage_at}
 use Rattle.flow_block.specs.Block.{port_at}
 use Rattle.flow_block.specs.Node.{next_in}
 use Rattle.flow_task.specs.Events.{BlockEvent, Does}
+use Rattle.flow_task.specs.Misses.{InMissed}
 use Rattle.flow_task.specs.Tasks.{makes_of}
 use Rattle.flow_task.specs.Turns.{MovesIn}
 use Rattle.flow_task.specs.Words.{may_be_forestalled}
@@ -20,6 +21,7 @@ returns-in_err-move_in-in-Some g c = record {
   number = c.move_in.ensures.number;
   spends = spends_none _ c.args.left.now c.args.self.now.node c.move_in.new.self.node c.in_err-move_in-in-Some.ensures.kept;
   still = search rules;
+  others = search rules;
 }
 
 pub returns-in-None-clause-spends : goal.returns-in-None-clause-spends
@@ -48,6 +50,7 @@ returns-then-branch g c =
       spends = spends_did (makes_of g.W.Runs.meaning s) c.args.left.now c.in_ok-move_in-in-Some.field-0 old new c.requires.left c.if-branch.true
           (subst (λ (r : Result Bool AllocError). Does (makes_of g.W.Runs.meaning s) r old new) c.in_ok-move_in-in-Some.was does);
       still = λ as_many. absurd (omega (arith, as_many, c.requires.left));
+      others = λ as_many. absurd (omega (arith, as_many, c.requires.left));
     }
 
 pub returns-else-branch : goal.returns-else-branch
@@ -75,5 +78,7 @@ returns-else-branch g c =
       still = λ as_many.
           missed (Ok c.in_ok-move_in-in-Some.field-0) (next_in c.args.port c.args.place old) c.in-Some.next
           (λ (next : Move). may_be_forestalled next (stage_at c.args.place (port_at c.args.port old.block)) ≡ true)
-          (sym c.next_in.ensures ∙ c.in-Some.is) c.in_ok-move_in-in-Some.ensures.late c.if-branch.false;
+          (InMissed c.move_in.new.self.ins.items c.args.port c.args.place) (sym c.next_in.ensures ∙ c.in-Some.is)
+          c.in_ok-move_in-in-Some.ensures.late c.in_ok-move_in-in-Some.ensures.tried c.if-branch.false;
+      others = λ as_many. c.in_ok-move_in-in-Some.ensures.others c.if-branch.false;
     }

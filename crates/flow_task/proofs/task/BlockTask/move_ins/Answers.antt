@@ -7,6 +7,7 @@ use Rattle.flow_task.specs.Turns.{PortIsStill}
 use Rattle.flow_task.specs.declared.board.Board.{Board}
 use Rattle.flow_block.specs.Planned.{block_makes}
 use Rattle.flow_task.proofs.Counts.{few_ports, ports_alike}
+use Rattle.flow_task.proofs.Misses.{port_still_then}
 use Rattle.flow_task.proofs.Spends.{as_many_first, as_many_then, spends_more, spends_none, spends_so}
 use Rattle.flow_task.proofs.task.BlockTask.move_ins.Goals as goal
 use Rattle.flow_task.proofs.task.BlockTask.move_ins.Goals.{then-port-first, else-port-first}
@@ -77,7 +78,18 @@ loop-port-preserved g c =
           c.move_port.new.self.node i.spends
           (spends_so c.loop-port.left c.move_port.new.left c.loop-port.self.node c.move_port.new.self.node (ap₂ makes i.of i.number) said.spends);
       still = λ as_many first place.
-          below_more (λ (k : ℕ). PortIsStill k old) here (i.still (as_many_first i.spends said.spends as_many) first place)
-          (subst (λ (node : NodeState). PortIsStill here node) (i.spends.kept (as_many_first i.spends said.spends as_many))
+          let after = c.move_port.new.self.ins.items in
+          below_more (λ (k : ℕ). PortIsStill k old after) here
+          (λ k low. port_still_then k old c.loop-port.self.ins.items after
+          (c.in_ok-move_port.ensures.others (as_many_then i.spends said.spends as_many))
+          (i.still (as_many_first i.spends said.spends as_many) first place k low))
+          (subst (λ (node : NodeState). PortIsStill here node after) (i.spends.kept (as_many_first i.spends said.spends as_many))
           (c.in_ok-move_port.ensures.still c.if-not-branch.false (as_many_then i.spends said.spends as_many) (from place)));
     }
+
+pub returns-clause-still : goal.returns-clause-still
+returns-clause-still g c =
+    let s = c.args.self.now in
+    let many : c.port_count-port-end.result ≡ length s.node.block.ports =
+    c.port_count-port-end.ensures ∙ ap (λ (b : BlockState). length b.ports) c.block.ensures in
+    λ all as_many first place p low. c.loop-port.invariant.still as_many first place p (omega (arith, many, c.loop-port-test.false, low))

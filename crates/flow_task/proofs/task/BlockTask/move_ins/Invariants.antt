@@ -10,5 +10,5 @@ invariant-loop-port g l = record {
   of : l.self.of.value ≡ l.fn.self.of.value;
   number : l.self.number ≡ l.fn.self.number;
   spends : Spends (makes_of g.W.Runs.meaning l.fn.self) l.fn.left l.left l.fn.self.node l.self.node;
-  still : l.left ≡ l.fn.left → l.first ≡ 0 → l.place ≡ 0 → (k : ℕ) → k < l.port → PortIsStill k l.fn.self.node;
+  still : l.left ≡ l.fn.left → l.first ≡ 0 → l.place ≡ 0 → (k : ℕ) → k < l.port → PortIsStill k l.fn.self.node l.self.ins.items;
 }

@@ -13,3 +13,6 @@ pub returns-then-branch-clause-spends : goal.returns-then-branch-clause-spends
 returns-then-branch-clause-spends g c =
     spends_did _ c.args.left.now c.in_ok-try_out.field-0 c.args.self.now.node c.try_out.new.self.node c.requires.left c.if-branch.true
     c.in_ok-try_out.ensures.does
+
+pub returns-else-branch-clause-still : goal.returns-else-branch-clause-still
+returns-else-branch-clause-still g c = λ as_many. c.in_ok-try_out.ensures.still c.if-branch.false

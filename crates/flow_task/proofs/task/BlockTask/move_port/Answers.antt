@@ -8,6 +8,7 @@ use Rattle.flow_task.specs.Turns.{InIsStill}
 use Rattle.flow_task.specs.declared.board.Board.{Board}
 use Rattle.flow_block.specs.Planned.{block_makes}
 use Rattle.flow_task.proofs.Counts.{ins_alike, ports_alike}
+use Rattle.flow_task.proofs.Misses.{in_still_then}
 use Rattle.flow_task.proofs.Spends.{as_many_first, as_many_then, spends_more, spends_none, spends_so}
 use Rattle.flow_task.proofs.task.BlockTask.move_port.Goals as goal
 
@@ -19,6 +20,7 @@ loop-place-init g c =
       number = refl;
       spends = spends_none _ c.args.left.now node node refl;
       still = λ as_many first k low. absurd (omega (arith, first, low));
+      others = λ as_many p k was. was;
     }
 
 pub move_in_once-requires-clause-port : goal.move_in_once-requires-clause-port
@@ -69,7 +71,21 @@ loop-place-preserved g c =
           c.move_in_once.new.self.node i.spends
           (spends_so c.loop-place.left c.move_in_once.new.left c.loop-place.self.node c.move_in_once.new.self.node (ap₂ makes i.of i.number) said.spends);
       still = λ as_many first.
-          below_more (λ (k : ℕ). InIsStill c.args.port k old) here (i.still (as_many_first i.spends said.spends as_many) first)
-          (subst (λ (node : NodeState). InIsStill c.args.port here node) (i.spends.kept (as_many_first i.spends said.spends as_many))
+          let after = c.move_in_once.new.self.ins.items in
+          below_more (λ (k : ℕ). InIsStill c.args.port k old after) here
+          (λ k low. in_still_then c.args.port k old c.loop-place.self.ins.items after
+          (c.in_ok-move_in_once.ensures.others (as_many_then i.spends said.spends as_many))
+          (i.still (as_many_first i.spends said.spends as_many) first k low))
+          (subst (λ (node : NodeState). InIsStill c.args.port here node after) (i.spends.kept (as_many_first i.spends said.spends as_many))
           (c.in_ok-move_in_once.ensures.still (as_many_then i.spends said.spends as_many)));
+      others = λ as_many p k was.
+          c.in_ok-move_in_once.ensures.others (as_many_then i.spends said.spends as_many) p k
+          (i.others (as_many_first i.spends said.spends as_many) p k was);
     }
+
+pub returns-clause-still : goal.returns-clause-still
+returns-clause-still g c =
+    let s = c.args.self.now in
+    let many : c.in_count-place-end.result ≡ in_count c.args.port s.node =
+    c.in_count-place-end.ensures ∙ ap (λ (b : BlockState). length (port_at c.args.port b).ends) c.block.ensures in
+    λ all as_many first k low. c.loop-place.invariant.still as_many first k (omega (arith, many, c.loop-place-test.false, low))

@@ -12,6 +12,7 @@ use Rattle.flow_exec.specs.Works.{works_of}
 use Rattle.flow_task.specs.Known.{InKnown, in_known, in_due, port_due, link_to}
 use Rattle.flow_task.specs.Words.{MayMoveIn, moved_in, header_of, is_late}
 use Rattle.flow_task.specs.declared.board.Board.{Board}
+use Rattle.flow_task.proofs.Misses.{in_missed, ins_miss_still}
 use Rattle.flow_task.proofs.Places.{count_is}
 use Rattle.flow_task.proofs.Reasons.{done_anyway, late_is_second, late_keeps, reason_may, reason_moved}
 use Rattle.flow_task.proofs.TaskSteps.{InStep, its_wire_in, port_here, in_here, in_law, in_outs, in_ins, in_knows, moves_in, enters_may, enters_ready}
@@ -173,3 +174,45 @@ invariant_of-self-else-won g c =
           (c.take_up-won.ensures.not_done lost ∙ ap in_known c.index_mut-2.ensures.value)
           ∙ ap (λ port. map in_known port.items) c.index_mut.ensures.value) ∙ s.ins_know;
     }
+
+pub returns-else-won-clause-tried : goal.returns-else-won-clause-tried
+returns-else-won-clause-tried g c =
+    let s = c.args.self.now in
+    let plan = s.of.value.rest.plan in
+    let layout = layout_of plan in
+    let wires = s.of.value.wires.items in
+    let works = works_of g.W.Runs.meaning layout in
+    let port = c.args.port in
+    let place = c.args.place in
+    let row = c.index_mut.result.now in
+    let changed = c.take_up-won.new.end in
+    let know = port_here layout works wires s.number plan.well_formed s.there s.node s.law port place c.requires.port c.requires.there
+    (λ port. port.items) s.ins.items s.ins_know row c.index_mut.ensures.value in
+    let ports = subst (λ (n : ℕ). port < n) (sym (count_is (λ port. map in_known port.items)
+    (port_due layout wires s.number s.node) (length s.node.block.ports) s.ins.items s.ins_know)) c.requires.port in
+    let there = subst (λ (n : ℕ). place < n)
+    (sym (count_is in_known (in_due layout wires s.number port s.node) (in_count port s.node) row.items know)) c.requires.there in
+    let lost : c.take_up-won.result ≡ false = search rules in
+    λ said. in_missed s.ins.items port place row (with_item row place changed) changed c.index_mut.ensures.value refl ports there
+    (c.take_up-won.ensures.missed lost)
+
+pub returns-else-won-clause-others : goal.returns-else-won-clause-others
+returns-else-won-clause-others g c =
+    let s = c.args.self.now in
+    let plan = s.of.value.rest.plan in
+    let layout = layout_of plan in
+    let wires = s.of.value.wires.items in
+    let works = works_of g.W.Runs.meaning layout in
+    let port = c.args.port in
+    let place = c.args.place in
+    let row = c.index_mut.result.now in
+    let changed = c.take_up-won.new.end in
+    let know = port_here layout works wires s.number plan.well_formed s.there s.node s.law port place c.requires.port c.requires.there
+    (λ port. port.items) s.ins.items s.ins_know row c.index_mut.ensures.value in
+    let ports = subst (λ (n : ℕ). port < n) (sym (count_is (λ port. map in_known port.items)
+    (port_due layout wires s.number s.node) (length s.node.block.ports) s.ins.items s.ins_know)) c.requires.port in
+    let there = subst (λ (n : ℕ). place < n)
+    (sym (count_is in_known (in_due layout wires s.number port s.node) (in_count port s.node) row.items know)) c.requires.there in
+    let lost : c.take_up-won.result ≡ false = search rules in
+    λ said. ins_miss_still s.ins.items port place row (with_item row place changed) changed c.index_mut.ensures.value refl ports there
+    (c.take_up-won.ensures.missed lost)

@@ -5,6 +5,7 @@ use Rattle.flow_intake.specs.Port.{stage_at}
 use Rattle.flow_block.specs.Block.{port_at}
 use Rattle.flow_block.specs.Node.{next_in}
 use Rattle.flow_task.specs.Events.{BlockEvent}
+use Rattle.flow_task.specs.Misses.{InMissed}
 use Rattle.flow_task.specs.Tasks.{makes_of}
 use Rattle.flow_task.specs.Turns.{MovesIn}
 use Rattle.flow_task.specs.Words.{may_be_forestalled}
@@ -33,4 +34,5 @@ returns-in-Some-clause-still g c =
     let node = c.args.self.now.node in
     missed c.move_in.result (next_in c.args.port c.args.place node) c.in-Some.next
     (λ (next : Move). may_be_forestalled next (stage_at c.args.place (port_at c.args.port node.block)) ≡ true)
-    (sym c.next_in.ensures ∙ c.in-Some.is) c.move_in.ensures.late
+    (InMissed c.move_in.new.self.ins.items c.args.port c.args.place) (sym c.next_in.ensures ∙ c.in-Some.is) c.move_in.ensures.late
+    c.move_in.ensures.tried

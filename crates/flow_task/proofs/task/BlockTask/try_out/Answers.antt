@@ -5,6 +5,7 @@ use Rattle.flow_block_law.specs.NextMoves.{next_source}
 use Rattle.flow_core.specs.Events.{source_call}
 use Rattle.flow_moves.specs.Calls.{Calls}
 use Rattle.flow_task.specs.Events.{BlockEvent}
+use Rattle.flow_task.specs.Misses.{OutMissed}
 use Rattle.flow_task.specs.Tasks.{makes_of}
 use Rattle.flow_task.specs.Words.{is_withdrawal}
 use Rattle.flow_task.proofs.TurnsHappen.{moved_does}
@@ -31,4 +32,5 @@ returns-in-Some-clause-does g c =
 pub returns-in-Some-clause-still : goal.returns-in-Some-clause-still
 returns-in-Some-clause-still g c =
     missed c.move_out.result (next_source c.args.place c.args.self.now.node) c.in-Some.next
-    (λ (next : Move). is_withdrawal next ≡ true) (sym c.next_of_exit.ensures ∙ c.in-Some.is) c.move_out.ensures.late
+    (λ (next : Move). is_withdrawal next ≡ true) (OutMissed c.move_out.new.self.outs.items c.args.place)
+    (sym c.next_of_exit.ensures ∙ c.in-Some.is) c.move_out.ensures.late c.move_out.ensures.tried

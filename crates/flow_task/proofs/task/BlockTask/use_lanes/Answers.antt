@@ -9,7 +9,7 @@ use Rattle.flow_task.proofs.task.BlockTask.use_lanes.Goals as goal
 pub loop-left-init : goal.loop-left-init
 loop-left-init g c =
     let node = c.args.self.now.node in
-    record { of = refl; number = refl; note = refl; unused = λ none. refl; spends = spends_none _ c.args.left.now node node refl }
+    record { of = refl; number = refl; ins = refl; outs = refl; note = refl; unused = λ none. refl; spends = spends_none _ c.args.left.now node node refl }
 
 pub loop-left-preserved : goal.loop-left-preserved
 loop-left-preserved g c =
@@ -23,6 +23,8 @@ loop-left-preserved g c =
     record {
       of = c.work_in_lanes.ensures.of ∙ i.of;
       number = c.work_in_lanes.ensures.number ∙ i.number;
+      ins = c.work_in_lanes.ensures.ins ∙ i.ins;
+      outs = c.work_in_lanes.ensures.outs ∙ i.outs;
       note = c.work_in_lanes.ensures.note ∙ i.note;
       unused = λ none. absurd (let less = i.spends.less in omega (arith, none, less, c.loop-left-test.true));
       spends = spends_more (makes s.of.value s.number) c.args.left.now left (left - 1) s.node t.node new i.spends

@@ -8,6 +8,8 @@ abbrev pub invariant-loop-left : goal.invariant-loop-left
 invariant-loop-left g l = record {
   of : l.self.of.value ≡ l.fn.self.of.value;
   number : l.self.number ≡ l.fn.self.number;
+  ins : l.self.ins ≡ l.fn.self.ins;
+  outs : l.self.outs ≡ l.fn.self.outs;
   note : l.self.note ≡ l.fn.self.note;
   unused : l.fn.left ≡ 0 → l.lanes ≡ l.fn.lanes;
   spends : Spends (makes_of g.W.Runs.meaning l.fn.self) l.fn.left l.left l.fn.self.node l.self.node;

@@ -15,6 +15,7 @@ use Rattle.flow_moves.specs.Calls.{handed}
 use Rattle.flow_task.specs.Known.{OutKnown, out_known, out_due, link_from}
 use Rattle.flow_task.specs.Words.{MayWithdraw, moved_out}
 use Rattle.flow_task.specs.declared.board.Board.{Board}
+use Rattle.flow_task.proofs.Misses.{out_missed, outs_miss_still}
 use Rattle.flow_task.proofs.Places.{count_is}
 use Rattle.flow_task.proofs.TaskSteps.{OutStep, its_wire, out_here, out_law, out_ins, out_outs, out_knows, moves_out, moves_ready, moves_may, stage_is, stage_kept}
 use Rattle.flow_task.proofs.task.BlockTask.withdraw.Goals as goal
@@ -112,3 +113,19 @@ invariant_of-self-else-won g c =
           (c.withdraw-won.ensures.not_done lost ∙ ap out_known c.index_mut.ensures.value) ∙ s.outs_know;
       ins_know = s.ins_know;
     }
+
+pub returns-else-won-clause-tried : goal.returns-else-won-clause-tried
+returns-else-won-clause-tried g c =
+    let s = c.args.self.now in
+    let due = out_due (layout_of s.of.value.rest.plan) s.of.value.wires.items s.number s.node in
+    let there = subst (λ (n : ℕ). c.args.place < n) (sym (count_is out_known due (out_count s.node) s.outs.items s.outs_know)) c.requires.there in
+    let lost : c.withdraw-won.result ≡ false = search rules in
+    λ said. out_missed s.outs.items c.args.place c.withdraw-won.new.end there (c.withdraw-won.ensures.missed lost)
+
+pub returns-else-won-clause-others : goal.returns-else-won-clause-others
+returns-else-won-clause-others g c =
+    let s = c.args.self.now in
+    let due = out_due (layout_of s.of.value.rest.plan) s.of.value.wires.items s.number s.node in
+    let there = subst (λ (n : ℕ). c.args.place < n) (sym (count_is out_known due (out_count s.node) s.outs.items s.outs_know)) c.requires.there in
+    let lost : c.withdraw-won.result ≡ false = search rules in
+    λ said. outs_miss_still s.outs.items c.args.place c.withdraw-won.new.end there (c.withdraw-won.ensures.missed lost)
