@@ -88,11 +88,14 @@ impl<'r> Records<'r> {
     }
 }
 
-/// What a failure of a reader or a writer in memory comes to.
+/// What a failure of a reader or a writer in memory comes to: there, a text can't grow for want of memory alone.
 pub(crate) fn fault_of(error: &Error) -> PieceFault {
     match error.kind() {
-        ErrorKind::OutOfMemory => PieceFault::Memory,
-        _ => PieceFault::Read,
+        ErrorKind::OutOfMemory | ErrorKind::Io(_) => PieceFault::Memory,
+        ErrorKind::Utf8 { .. }
+        | ErrorKind::UnequalLengths { .. }
+        | ErrorKind::Serialize(_)
+        | ErrorKind::Deserialize { .. } => PieceFault::Read,
     }
 }
 
