@@ -33,7 +33,13 @@ PREPARED = [
     "bin/flow_run examples/tours.toml 1 < examples/tours.csv > tours.report",
     "cp examples/import.toml network.toml",
     "cp examples/import.csv records.csv",
+    # More than there is memory for, where there is little.
+    "truncate -s 1G large.toml",
+    """yes "$(printf 'block a done\\nport 0 []\\nheld 0 []\\nleft []')" | head -n 4000000 > large.report""",
+    "yes | head -n 3000000 > large.csv",
 ]
+
+LITTLE = "ulimit -v 200000"
 
 FORM = """printf 'format = 1\\nblock = []\\n[[link]]\\nform = "a"\\nto = "b"\\n'"""
 
@@ -47,6 +53,7 @@ FLOW = [
     ),
     Case(f"{FORM} | bin/flow check -", 1, '-:4:1: error: link 0 has a key "form", which links do not have. Did you mean "from"?'),
     Case("bin/flow check nowhere.toml", 2, "", "flow: nowhere.toml: "),
+    Case(f"{LITTLE}; bin/flow check large.toml", 4, "", "flow: memory"),
     Case("bin/flow draw examples/import.toml import.report", 0, "orders  buffer, input: done, took 3"),
     Case(
         "bin/flow draw examples/import.toml fault.report",
@@ -62,6 +69,7 @@ FLOW = [
     Case("bin/flow results import.report order_numbers", 0, "order_numbers,1001\norder_numbers,1002\norder_numbers,1003"),
     Case("bin/flow results - < examples/batches.report", 0, "totals,196850\ntotals,566850\ntotals,359175"),
     Case("bin/flow results import.report nobody", 2, "", "flow: import.report: the report has no block nobody"),
+    Case(f"{LITTLE}; bin/flow results large.report", 4, "", "flow: memory"),
     Case("bin/flow sift examples/import.toml < examples/import.csv | cmp - examples/import.csv", 0),
     Case(
         "bin/flow sift examples/fault.toml < examples/fault.csv",
@@ -70,6 +78,7 @@ FLOW = [
         'record 3, line 3: cents faulted with 1 (NotInt): "prices,seven"',
     ),
     Case("bin/flow sift examples/README.md < examples/fault.csv", 2, "", "flow: examples/README.md: 1 Syntax"),
+    Case(f"{LITTLE}; bin/flow sift examples/import.toml < large.csv", 4, "", "flow: memory"),
     Case("bin/flow split 3 --name part examples/import.csv", 0, "part.1\npart.2\npart.3"),
     Case("cat part.? | cmp - examples/import.csv", 0),
     Case("bin/flow split 12 --name part examples/import.csv | tail -n 1", 0, "part.12"),

@@ -7,7 +7,7 @@ mod table;
 use crate::results::json_form::{write_lines, write_member};
 use crate::results::table::Table;
 pub use error::ResultsError;
-use flow_reading::{BlockReport, Kept, PrintedList, Report, read_report};
+use flow_reading::{BlockReport, Kept, PrintedList, ReadError, Report, read_report};
 use std::alloc::Global;
 use std::io::Write;
 
@@ -35,7 +35,8 @@ pub fn write_results<'a, W: Write>(
 ) -> Result<(), ResultsError<'a>> {
     let report = match read_report(alloc, report) {
         Ok(report) => report,
-        Err(error) => return Err(ResultsError::Report(error)),
+        Err(ReadError::Memory) => return Err(ResultsError::Memory),
+        Err(error @ ReadError::Fault { .. }) => return Err(ResultsError::Report(error)),
     };
     check_names(&report, names)?;
     match form {

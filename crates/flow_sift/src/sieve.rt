@@ -7,7 +7,7 @@ use flow_pieces::{PieceFault, Records};
 use flow_text::{TextFault, TextRefusal, read_plan};
 use flow_value::Steps;
 use std::alloc::Global;
-use std::io::Write;
+use std::io::{ErrorKind, Write};
 
 /// How many records went which way.
 #[derive(Clone, Copy, Default, PartialEq, Eq)]
@@ -65,6 +65,7 @@ fn put<G: Write, B: Write>(
     };
     match written {
         Ok(()) => Ok(aside.is_none()),
+        Err(error) if error.kind() == ErrorKind::OutOfMemory => Err(TextRefusal::Memory),
         Err(_) => Err(TextRefusal::Fault(TextFault::Write)),
     }
 }

@@ -19,7 +19,7 @@ pub fn read_file<R: Files + Input + AllocGlobal>(rt: &R, path: &str) -> Result<V
     }
     match fs::read(rt, path) {
         Ok(text) => Ok(text),
-        Err(error) => Err(Stop::refused(path, &error)),
+        Err(error) => Err(Stop::refused(path, &error).unless_memory(&error)),
     }
 }
 
@@ -29,7 +29,7 @@ pub fn read_input<R: Input + AllocGlobal>(rt: &R) -> Result<Vec<u8>, Stop> {
     let mut reader = BufReader::new(rt.alloc(), rt.reader())?;
     match reader.read_to_end(&mut text) {
         Ok(_) => Ok(text),
-        Err(error) => Err(Stop::refused("standard input", &error)),
+        Err(error) => Err(Stop::refused("standard input", &error).unless_memory(&error)),
     }
 }
 

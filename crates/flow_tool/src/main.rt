@@ -18,6 +18,7 @@ use crate::sifting::sift;
 use crate::stop::Stop;
 use clap::ArgMatches;
 use clap::error::ErrorKind;
+use std::alloc::AllocError;
 use std::env::Env;
 use std::fs::Files;
 use std::io::{Input, IsTerminal, Write};
@@ -41,8 +42,9 @@ fn perform<R: Env + Files + Input + Print + Eprint + AllocGlobal>(
     rt: &R,
     is_terminal: bool,
 ) -> Result<u8, Stop> {
-    let Ok(arguments) = env::args(rt) else {
-        return Err(Stop::usage("an argument is not UTF-8"));
+    let arguments = match env::args(rt) {
+        Ok(arguments) => arguments,
+        Err(error) => return Err(Stop::usage("an argument is not UTF-8").unless_memory(&error)),
     };
     let words: Vec<String> = arguments.collect(rt.alloc())?;
     let coloured = is_terminal && !is_set(rt, "NO_COLOR");
@@ -70,6 +72,7 @@ fn answer<R: Files + Input + Print + Eprint + AllocGlobal>(
                 write!(io::writer(rt), "{error}")?;
                 Ok(0)
             }
+            ErrorKind::OutOfMemory => Err(Stop::from(AllocError)),
             _ => Err(Stop::of_arguments(rt.alloc(), &error)?),
         },
     }

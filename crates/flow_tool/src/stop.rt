@@ -1,4 +1,7 @@
 //! Why a command ends before its work is done: a line for standard error, and a status.
+ghost use Rattle.std.specs.Prelude.{◌≡◌, ◌≢◌};
+ghost use Rattle.std.specs.IoError.{error_kind};
+
 use anyhow::anyhow;
 use flow_text::{TextFault, TextRefusal};
 use std::alloc::{AllocError, AllocFailed, Global};
@@ -47,7 +50,9 @@ impl Stop {
     }
 
     /// What was asked for can't be done, and the program ends with this status.
-    pub fn with_status(status: u8, why: &impl Display) -> Stop {
+    pub fn with_status(status: u8, why: &impl Display) -> Stop
+        ensures { result.status ≡ status }
+    {
         Stop {
             status,
             why: anyhow!("{why}"),
@@ -59,11 +64,23 @@ impl Stop {
         let status = match refusal {
             TextRefusal::Fault(TextFault::Read | TextFault::Write) => 5,
             TextRefusal::Fault(_) => 2,
-            TextRefusal::Memory => 4,
+            TextRefusal::Memory => return Stop::from(AllocError),
         };
         Stop {
             status,
             why: anyhow!("{path}: {refusal}"),
+        }
+    }
+
+    /// This end, or that there was no memory where a call failed for that.
+    pub fn unless_memory(self, error: &io::Error) -> Stop
+        ensures memory { error_kind error.now ≡ ErrorKind.OutOfMemory → result.status ≡ 4 }
+        ensures other { error_kind error.now ≢ ErrorKind.OutOfMemory → result ≡ self }
+    {
+        if error.kind() == ErrorKind::OutOfMemory {
+            Stop::from(AllocError)
+        } else {
+            self
         }
     }
 
@@ -98,12 +115,16 @@ impl Stop {
 }
 
 impl From<AllocError> for Stop {
+    ghost from_gives = { λ _ stop. stop.status ≡ 4 };
+
     fn from(_error: AllocError) -> Stop {
         Stop::with_status(4, &"memory")
     }
 }
 
 impl<T: Drop> From<AllocFailed<T>> for Stop {
+    ghost from_gives = { λ _ stop. stop.status ≡ 4 };
+
     fn from(_error: AllocFailed<T>) -> Stop {
         Stop::with_status(4, &"memory")
     }
@@ -111,9 +132,6 @@ impl<T: Drop> From<AllocFailed<T>> for Stop {
 
 impl From<io::Error> for Stop {
     fn from(error: io::Error) -> Stop {
-        match error.kind() {
-            ErrorKind::OutOfMemory => Stop::from(AllocError),
-            _ => Stop::with_status(5, &error),
-        }
+        Stop::with_status(5, &error).unless_memory(&error)
     }
 }

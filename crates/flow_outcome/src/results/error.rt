@@ -45,8 +45,12 @@ impl<T: Drop> From<AllocFailed<T>> for ResultsError<'_> {
 }
 
 impl From<io::Error> for ResultsError<'_> {
-    fn from(_error: io::Error) -> Self {
-        ResultsError::Write
+    fn from(error: io::Error) -> Self {
+        if error.kind() == io::ErrorKind::OutOfMemory {
+            ResultsError::Memory
+        } else {
+            ResultsError::Write
+        }
     }
 }
 
