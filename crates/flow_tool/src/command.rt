@@ -177,8 +177,9 @@ const SPLIT: Entry = Entry {
     name: "split",
     about: "Cuts records into parts of about the same size",
     below: "\
-The parts are RECORDS.1, RECORDS.2 and so on, with as many digits as PARTS has; their names are printed. A cut is never in a
-quoted line end. With --by-key each record is `key,input,value`, and the parts have `input,value`.
+The parts are RECORDS.1, RECORDS.2 and so on, with as many digits as PARTS has; their names are printed. A file that is there
+already is refused, and nothing is written then. A cut is never in a quoted line end. With --by-key each record is
+`key,input,value`, and the parts have `input,value`.
 
 example:
   bin/flow split 8 records.csv",
@@ -198,6 +199,11 @@ example:
             "by-key",
             Form::Flag(&[]),
             "Puts records with one key into one part, and takes the key off"
+        ),
+        argument!(
+            "force",
+            Form::Flag(&[]),
+            "Replaces files that are there already, but never RECORDS"
         ),
     ],
 };

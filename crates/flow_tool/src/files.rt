@@ -12,6 +12,9 @@ use std::io::{BufReader, Input, Read};
 /// The word for standard input in the place of a file.
 pub const STANDARD_INPUT: &str = "-";
 
+/// Where the system shows the file that standard input is.
+pub const STANDARD_INPUT_FILE: &str = "/dev/stdin";
+
 /// The bytes of a file, or of standard input.
 pub fn read_file<R: Files + Input + AllocGlobal>(rt: &R, path: &str) -> Result<Vec<u8>, Stop> {
     if path == STANDARD_INPUT {

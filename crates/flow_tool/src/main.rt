@@ -5,6 +5,7 @@ mod checking;
 mod command;
 mod files;
 mod output;
+mod part_files;
 mod parts;
 mod reports;
 mod sifting;

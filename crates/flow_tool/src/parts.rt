@@ -1,6 +1,9 @@
 //! `flow split` and `flow merge`.
-use crate::files::{STANDARD_INPUT, read_file, read_network, read_text_report};
+use crate::files::{
+    STANDARD_INPUT, STANDARD_INPUT_FILE, read_file, read_network, read_text_report,
+};
 use crate::output::{finish, output};
+use crate::part_files::PartFiles;
 use crate::stop::Stop;
 use clap::ArgMatches;
 use flow_outcome::{MergeFault, Outline, merge_reports, worst_status};
@@ -8,7 +11,6 @@ use flow_pieces::{PieceFault, cut_records, deal_by_key};
 use flow_plan_outline::outline_of;
 use flow_reading::Report;
 use std::alloc::{AllocError, Global};
-use std::fs;
 use std::fs::Files;
 use std::io::Input;
 
@@ -21,12 +23,7 @@ pub fn split<R: Files + Input + Print + AllocGlobal>(
     let parts = given.get_one::<u32>("parts").unwrap_or(1) as usize;
     let path = given.get_str("records").unwrap_or("");
     let records = read_file(rt, path)?;
-    let default = if path == STANDARD_INPUT {
-        "records"
-    } else {
-        path
-    };
-    let name = given.get_str("name").unwrap_or(default);
+    let files = files_of(given, path);
     if given.get_flag("by-key") {
         match deal_by_key(alloc, &records, parts) {
             Ok(texts) => {
@@ -34,15 +31,30 @@ pub fn split<R: Files + Input + Print + AllocGlobal>(
                 for text in &texts {
                     pieces.push(text.as_slice())?;
                 }
-                write_pieces(rt, name, &pieces)
+                files.write(rt, &pieces)?;
             }
-            Err(fault) => Err(uncut(path, fault)),
+            Err(fault) => return Err(uncut(path, fault)),
         }
     } else {
         match cut_records(alloc, &records, parts) {
-            Ok(pieces) => write_pieces(rt, name, &pieces),
-            Err(fault) => Err(uncut(path, fault)),
+            Ok(pieces) => files.write(rt, &pieces)?,
+            Err(fault) => return Err(uncut(path, fault)),
         }
+    }
+    Ok(0)
+}
+
+/// Where the parts go to of the records that are read from here.
+fn files_of<'a>(given: &ArgMatches<'a>, path: &'a str) -> PartFiles<'a> {
+    let (name, records) = if path == STANDARD_INPUT {
+        ("records", STANDARD_INPUT_FILE)
+    } else {
+        (path, path)
+    };
+    PartFiles {
+        name: given.get_str("name").unwrap_or(name),
+        records,
+        may_replace: given.get_flag("force"),
     }
 }
 
@@ -52,35 +64,6 @@ fn uncut(path: &str, fault: PieceFault) -> Stop {
         PieceFault::Memory => Stop::from(AllocError),
         PieceFault::Fields(_) | PieceFault::Read => Stop::refused(path, &fault),
     }
-}
-
-/// Writes each part to a file: to the name, with a dot and the part's number behind it.
-fn write_pieces<R: Files + Print + AllocGlobal>(
-    rt: &R,
-    name: &str,
-    pieces: &[&[u8]],
-) -> Result<u8, Stop> {
-    for (place, piece) in pieces.iter().enumerate() {
-        let path = part_name(rt.alloc(), name, place.saturating_add(1), pieces.len())?;
-        if let Err(error) = fs::write(rt, path.as_str(), *piece) {
-            return Err(Stop::unwritten(path.as_str(), &error));
-        }
-        rt.println(path.as_str())?;
-    }
-    Ok(0)
-}
-
-/// The name of a part's file. The numbers have as many digits as the greatest, so that names in the order of the alphabet
-/// are in the order of the parts.
-fn part_name(alloc: Global, name: &str, number: usize, count: usize) -> Result<String, AllocError> {
-    let digits = format!(in alloc; "{number}")?;
-    let width = format!(in alloc; "{count}")?.len();
-    let mut path = format!(in alloc; "{name}.")?;
-    for _ in digits.len()..width {
-        path.push_str("0")?;
-    }
-    path.push_str(digits.as_str())?;
-    Ok(path)
 }
 
 /// Prints the report of the whole, of which these files have the reports of parts. The status is the worst of the parts'.

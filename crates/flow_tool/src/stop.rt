@@ -34,11 +34,12 @@ impl Stop {
     }
 
     /// The file of this name could not be written.
-    pub fn unwritten(path: &str, why: &impl Display) -> Stop {
-        Stop {
+    pub fn unwritten(path: &str, error: &io::Error) -> Stop {
+        let failed = Stop {
             status: 5,
-            why: anyhow!("{path}: {why}"),
-        }
+            why: anyhow!("{path}: {error}"),
+        };
+        failed.unless_memory(error)
     }
 
     /// Standard output failed.
