@@ -53,6 +53,14 @@ FLOW = [
     ),
     Case(f"{FORM} | bin/flow check -", 1, '-:4:1: error: link 0 has a key "form", which links do not have. Did you mean "from"?'),
     Case("bin/flow check nowhere.toml", 2, "", "flow: nowhere.toml: "),
+    Case("bin/flow check \"$(printf 'no\\nfile')\"", 2, "", "flow: no\\nfile: "),
+    Case(
+        f"""name=$(printf "o\\n'e"); {FORM} > "$name"; bin/flow check --short "$name\"""",
+        1,
+        "o\\n'e:4:1: error: link 0 has a key \"form\", which links do not have. Did you mean \"from\"?\n"
+        "o\\n'e:5:6: error: link 0 leads to \"b\", and no block has that name.\n",
+    ),
+    Case("bin/flow \"$(printf 'fl\\ny')\"", 2, "", "flow: unrecognized subcommand 'fl\\ny'"),
     Case(f"{LITTLE}; bin/flow check large.toml", 4, "", "flow: memory"),
     Case("bin/flow draw examples/import.toml import.report", 0, "orders  buffer, input: done, took 3"),
     Case(
@@ -68,7 +76,7 @@ FLOW = [
     Case("bin/flow trace examples/fault.csv 12", 2, "", "flow: examples/fault.csv: line 1: a report has no such line here"),
     Case("bin/flow results import.report order_numbers", 0, "order_numbers,1001\norder_numbers,1002\norder_numbers,1003"),
     Case("bin/flow results - < examples/batches.report", 0, "totals,196850\ntotals,566850\ntotals,359175"),
-    Case("bin/flow results import.report nobody", 2, "", "flow: import.report: the report has no block nobody"),
+    Case("bin/flow results import.report nobody", 2, "", 'flow: import.report: the report has no block "nobody"'),
     Case(f"{LITTLE}; bin/flow results large.report", 4, "", "flow: memory"),
     Case("bin/flow sift examples/import.toml < examples/import.csv | cmp - examples/import.csv", 0),
     Case(

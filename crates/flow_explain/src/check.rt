@@ -12,6 +12,7 @@ use crate::records::explain_records;
 use flow_fault_text::{TextFault, TextRefusal};
 use flow_hints::Warning;
 use flow_link::Plan;
+use flow_places::Escaped;
 use flow_plan_text::read_plan;
 use flow_value::Steps;
 use std::alloc::{AllocError, Global};
@@ -155,6 +156,7 @@ fn write_end<W: Write>(
     sort: &str,
     out: &mut W,
 ) -> io::Result<()> {
+    let name = Escaped(name);
     match count {
         0 => writeln!(out, "{name}: {end}"),
         1 => writeln!(out, "{name}: {end}, with 1 {sort}"),

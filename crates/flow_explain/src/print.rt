@@ -4,12 +4,12 @@ ghost use Rattle.std.specs.Prelude.{◌≡◌};
 use crate::finding::Flaw;
 use flow_fault_text::TextFault;
 use flow_hints::Warning;
-use flow_places::{Excerpt, Span, excerpt_of, position_of};
+use flow_places::{Escaped, Excerpt, Span, excerpt_of, position_of};
 use std::alloc::{AllocError, Global};
 use std::io;
 use std::io::{ErrorKind, Write};
 
-/// A text and the name by which it is told, such as that of its file.
+/// A text and the name by which it is told, such as that of its file; the name is printed with escapes.
 #[derive(Clone, Copy)]
 pub struct Source<'s> {
     pub name: &'s str,
@@ -80,7 +80,7 @@ fn write_head<W: Write>(
     message: &str,
     out: &mut W,
 ) -> io::Result<()> {
-    let name = source.name;
+    let name = Escaped(source.name);
     let position = position_of(source.text, span.start);
     let (line, column) = (position.line, position.column);
     writeln!(out, "{name}:{line}:{column}: {severity}: {message}")

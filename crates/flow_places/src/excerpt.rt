@@ -1,4 +1,5 @@
 //! A line of a text as a terminal shows it, and where on it a range stands.
+use crate::escaped::turns;
 use crate::lines::line_span;
 use crate::span::Span;
 use std::alloc::{AllocError, Global};
@@ -7,14 +8,17 @@ use unicode_width::{UnicodeWidthChar, UnicodeWidthStr};
 /// The most columns that are shown in front of a range, of the range itself, and behind it.
 const MOST_COLUMNS: usize = 60;
 
+/// The columns of the escape of a character that turns the direction of others, at most.
+const ESCAPE_COLUMNS: usize = 8;
+
 /// What stands where columns are left out.
 const LEFT_OUT: &str = "...";
 
 /// The line on which a range begins, as a terminal shows it, and the columns of the range.
 #[derive(Drop)]
 pub struct Excerpt {
-    /// The line without its end. A control character is a space, what is no UTF-8 a replacement character, and of a
-    /// long line the middle with the range.
+    /// The line without its end. A control character is a space, one that turns the direction of others its escape, what is
+    /// no UTF-8 a replacement character, and of a long line the middle with the range.
     pub line: String,
     /// The columns in front of the range.
     pub before: usize,
@@ -45,18 +49,27 @@ fn bytes(text: &[u8], start: usize, end: usize) -> &[u8] {
     text.get(start..end).unwrap_or(&[])
 }
 
-// A character as it is shown.
-fn shown(character: char) -> char {
-    if character.is_control() {
-        ' '
+// Adds a character as it is shown.
+fn push_shown(line: &mut String, character: char) -> Result<(), AllocError> {
+    if turns(character) {
+        let escape = character.escape_unicode();
+        write!(line, "{escape}")
+    } else if character.is_control() {
+        line.push(' ')
     } else {
-        character
+        line.push(character)
     }
 }
 
 // The columns of a character that is shown.
 fn columns(character: char) -> usize {
-    shown(character).width().unwrap_or(0)
+    if turns(character) {
+        ESCAPE_COLUMNS
+    } else if character.is_control() {
+        1
+    } else {
+        character.width().unwrap_or(0)
+    }
 }
 
 // Adds the first columns of these bytes.
@@ -68,7 +81,7 @@ fn push_head(alloc: Global, line: &mut String, bytes: &[u8]) -> Result<(), Alloc
         if taken > MOST_COLUMNS {
             return line.push_str(LEFT_OUT);
         }
-        line.push(shown(character))?;
+        push_shown(line, character)?;
     }
     Ok(())
 }
@@ -82,7 +95,7 @@ fn push_tail(alloc: Global, line: &mut String, bytes: &[u8]) -> Result<(), Alloc
         line.push_str(LEFT_OUT)?;
     }
     for character in text.chars().skip(skipped) {
-        line.push(shown(character))?;
+        push_shown(line, character)?;
     }
     Ok(())
 }

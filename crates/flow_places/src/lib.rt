@@ -4,12 +4,14 @@
 #![tactic(auto)]
 
 mod cursor;
+mod escaped;
 mod excerpt;
 mod lines;
 mod network;
 mod places;
 mod span;
 
+pub use escaped::Escaped;
 pub use excerpt::{Excerpt, excerpt_of};
 pub use lines::{Position, line_of, line_span, position_of};
 pub use network::{item_span, places_in};

@@ -19,7 +19,8 @@ use crate::sifting::sift;
 use crate::stop::Stop;
 use clap::ArgMatches;
 use clap::error::ErrorKind;
-use std::alloc::AllocError;
+use flow_places::Escaped;
+use std::alloc::{AllocError, Global};
 use std::env::Env;
 use std::fs::Files;
 use std::io::{Input, IsTerminal, Write};
@@ -74,7 +75,28 @@ fn answer<R: Files + Input + Print + Eprint + AllocGlobal>(
                 Ok(0)
             }
             ErrorKind::OutOfMemory => Err(Stop::from(AllocError)),
-            _ => Err(Stop::of_arguments(rt.alloc(), &error)?),
+            _ => Err(refusal_of(rt.alloc(), words)?),
+        },
+    }
+}
+
+/// What is wrong with words that are refused. They are told with their escapes, which none of the program's own words has.
+fn refusal_of(alloc: Global, words: &[String]) -> Result<Stop, AllocError> {
+    let mut shown = Vec::with_capacity(alloc, words.len())?;
+    for word in words {
+        let word = Escaped(word.as_str());
+        shown.push(format!(in alloc; "{word}")?)?;
+    }
+    refusal_in(alloc, &shown)
+}
+
+/// What is wrong with words that are told as they are.
+fn refusal_in(alloc: Global, words: &[String]) -> Result<Stop, AllocError> {
+    match command_line(alloc)?.try_get_matches_from(words) {
+        Ok(_) => Ok(Stop::usage("the arguments are not those of a command")),
+        Err(error) => match error.kind() {
+            ErrorKind::OutOfMemory => Err(AllocError),
+            _ => Stop::of_arguments(alloc, &error),
         },
     }
 }

@@ -1,8 +1,9 @@
-//! Why a command ends before its work is done: a line for standard error, and a status.
+//! Why a command ends before its work is done: a line for standard error, and a status. Names of files have escapes there.
 ghost use Rattle.std.specs.Prelude.{◌≡◌, ◌≢◌};
 ghost use Rattle.std.specs.IoError.{error_kind};
 
 use anyhow::anyhow;
+use flow_places::Escaped;
 use flow_text::{TextFault, TextRefusal};
 use std::alloc::{AllocError, AllocFailed, Global};
 use std::fmt::Display;
@@ -27,6 +28,7 @@ impl Stop {
 
     /// Something that was read is refused: this is wrong with the file of this name.
     pub fn refused(path: &str, why: &impl Display) -> Stop {
+        let path = Escaped(path);
         Stop {
             status: 2,
             why: anyhow!("{path}: {why}"),
@@ -35,6 +37,7 @@ impl Stop {
 
     /// The file of this name could not be written.
     pub fn unwritten(path: &str, error: &io::Error) -> Stop {
+        let path = Escaped(path);
         let failed = Stop {
             status: 5,
             why: anyhow!("{path}: {error}"),
@@ -67,6 +70,7 @@ impl Stop {
             TextRefusal::Fault(_) => 2,
             TextRefusal::Memory => return Stop::from(AllocError),
         };
+        let path = Escaped(path);
         Stop {
             status,
             why: anyhow!("{path}: {refusal}"),

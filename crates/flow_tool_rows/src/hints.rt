@@ -24,6 +24,16 @@ net: refused, with 2 errors
         "net: accepted
 ",
     ),
+    // What turns the direction of a line is not shown as it is.
+    (
+        "block = [] ; \"\u{202e}a\u{2066}\" = \"\u{200f}\"",
+        "net:3:1: error: the network has a key \"\\u{202e}a\\u{2066}\", which networks do not have.
+ 3 | \"\\u{202e}a\\u{2066}\" = \"\\u{200f}\"
+   | ^^^^^^^^^^^^^^^^^^^
+   = 2 UnknownKey top
+net: refused, with 1 error
+",
+    ),
     // A tab is one column, an accented letter too, and a wide character is two.
     (
         "block = [] ; \"é日\"\t= 1",

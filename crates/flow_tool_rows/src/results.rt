@@ -90,7 +90,7 @@ fn results_of_blocks_by_name(rt: HostRuntime) -> Result<(), Fail> {
             == "{\n\"labels\":[\"Ada Lovelace\",\"Hopper, Grace\",\"Zoë \\\"Zed\\\" Müller\"]\n}\n",
     );
     for (name, due) in [
-        ("nobody", "the report has no block nobody"),
+        ("no\nbody", "the report has no block \"no\\nbody\""),
         ("orders", "block orders is no action, so it has no results"),
     ] {
         let text = results(

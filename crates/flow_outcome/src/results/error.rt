@@ -22,7 +22,7 @@ impl fmt::Display for ResultsError<'_> {
     fn fmt<W: fmt::Write>(&self, f: &mut fmt::Formatter<W>) -> fmt::Result {
         match *self {
             ResultsError::Report(error) => write!(f, "{error}"),
-            ResultsError::NoBlock(name) => write!(f, "the report has no block {name}"),
+            ResultsError::NoBlock(name) => write!(f, "the report has no block {name:?}"),
             ResultsError::NoAction(name) => {
                 write!(f, "block {name} is no action, so it has no results")
             }
