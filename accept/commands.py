@@ -33,6 +33,8 @@ PREPARED = [
     "bin/flow_run examples/tours.toml 1 < examples/tours.csv > tours.report",
     "cp examples/import.toml network.toml",
     "cp examples/import.csv records.csv",
+    # One message is missing that a block took, though it crossed the link to it.
+    "sed '/^block order_numbers/,/^held/s/,\"1002\"//' import.report > damaged.report",
     # More than there is memory for, where there is little.
     "truncate -s 1G large.toml",
     """yes "$(printf 'block a done\\nport 0 []\\nheld 0 []\\nleft []')" | head -n 4000000 > large.report""",
@@ -40,6 +42,8 @@ PREPARED = [
 ]
 
 LITTLE = "ulimit -v 200000"
+
+DAMAGED = "the report is damaged: order_numbers did not take at port 0 what its links gave"
 
 FORM = """printf 'format = 1\\nblock = []\\n[[link]]\\nform = "a"\\nto = "b"\\n'"""
 
@@ -69,7 +73,14 @@ FLOW = [
         "",
         "flow: fault.report: the report is of another network: it has 2 blocks, and the network 8",
     ),
+    Case("bin/flow draw examples/import.toml damaged.report", 0, f"{DAMAGED}\norders  buffer, input: done, took 3"),
+    Case("bin/flow draw --dot examples/import.toml damaged.report | sed -n 4p", 0, f'  label="{DAMAGED}";'),
     Case("bin/flow why examples/import.toml import.report", 0, None),
+    Case(
+        "bin/flow why examples/import.toml damaged.report",
+        0,
+        f"status 0: every block is done, and no record waits\n{DAMAGED}",
+    ),
     Case("bin/flow why examples/README.md import.report", 2, "", "flow: examples/README.md: 1 Syntax"),
     Case("bin/flow trace fault.report 1200", 0, "cents recorded it: number 1"),
     Case("bin/flow trace fault.report eight", 1),
@@ -118,6 +129,7 @@ FLOW = [
         "",
         "flow: part 1 has status 1, and only parts with status 0 are merged",
     ),
+    Case("bin/flow merge examples/import.toml import.report damaged.report", 2, "", f"flow: part 2: {DAMAGED}"),
     Case(
         "bin/flow merge examples/tours.toml tours.report",
         2,

@@ -3,6 +3,7 @@ mod graph;
 mod notes;
 mod text;
 
+use crate::damage::damage_in;
 use crate::drawing::graph::write_graph;
 use crate::drawing::text::write_text;
 use crate::fault::TellFault;
@@ -23,20 +24,24 @@ pub enum DrawStyle {
 }
 
 /// Draws a network. With a report of it each block has its state and how many messages it took, holds, recorded and
-/// left, and each link how many crossed it.
+/// left, and each link how many crossed it. Where the report is damaged, the drawing says so.
 pub fn write_drawing<W: Write>(
     outline: &Outline,
     report: Option<&Report>,
     style: DrawStyle,
     writer: &mut W,
 ) -> Result<(), TellFault> {
-    if let Some(report) = report {
-        check_fit(outline, report)?;
-    }
+    let damage = match report {
+        Some(report) => {
+            check_fit(outline, report)?;
+            damage_in(outline, report)
+        }
+        None => None,
+    };
     match style {
-        DrawStyle::Plain => write_text(outline, report, false, writer)?,
-        DrawStyle::Coloured => write_text(outline, report, true, writer)?,
-        DrawStyle::Dot => write_graph(outline, report, writer)?,
+        DrawStyle::Plain => write_text(outline, report, false, damage, writer)?,
+        DrawStyle::Coloured => write_text(outline, report, true, damage, writer)?,
+        DrawStyle::Dot => write_graph(outline, report, damage, writer)?,
     }
     Ok(())
 }

@@ -3,6 +3,7 @@
 #![tactic(auto)]
 
 mod admits;
+mod damage;
 mod drawing;
 mod fault;
 mod fit;
@@ -14,6 +15,7 @@ mod trace;
 mod verdict;
 
 pub use admits::Admits;
+pub use damage::{Damage, damage_in};
 pub use drawing::{DrawStyle, write_drawing};
 pub use fault::TellFault;
 pub use fit::{Misfit, check_fit};

@@ -10,6 +10,7 @@ mod lines;
 mod passed;
 mod status;
 
+use crate::damage::damage_in;
 use crate::fit::check_fit;
 use crate::merge::lines::write_block;
 use crate::merge::passed::check_passed;
@@ -48,18 +49,11 @@ fn check_network<'n>(network: &Outline<'n>) -> Result<(), MergeFault<'n>> {
         if !block.kind.keeps_nothing() {
             return Err(MergeFault::Kind(block.name, block.kind));
         }
-    }
-    check_reserves(network)?;
-    check_max(network)
-}
-
-fn check_reserves<'n>(network: &Outline<'n>) -> Result<(), MergeFault<'n>> {
-    for block in &network.blocks {
         if block.reserves {
             return Err(MergeFault::Reserves(block.name));
         }
     }
-    Ok(())
+    check_max(network)
 }
 
 fn check_max<'n>(network: &Outline<'n>) -> Result<(), MergeFault<'n>> {
@@ -79,6 +73,9 @@ fn check_part<'n>(
 ) -> Result<(), MergeFault<'n>> {
     if let Err(misfit) = check_fit(network, part) {
         return Err(MergeFault::Misfit(number, misfit));
+    }
+    if let Some(damage) = damage_in(network, part) {
+        return Err(MergeFault::Damaged(number, damage));
     }
     match report_status(part) {
         0 => check_passed(network, number, part),

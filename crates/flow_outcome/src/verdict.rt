@@ -5,6 +5,7 @@ mod work_fault;
 
 ghost use Rattle.std.specs.Prelude.{◌≡◌, ◌↔◌, IfOk};
 
+use crate::damage::damage_in;
 use crate::fault::TellFault;
 use crate::fit::check_fit;
 use crate::outline::Outline;
@@ -13,8 +14,8 @@ use flow_reading::{BlockReport, Report, Settled, State};
 use std::io;
 use std::io::Write;
 
-/// Writes the status that the run ended with, and a line for each cause: a block that is not done, records that wait.
-/// Returns the status.
+/// Writes the status that the run ended with, a line where the report is damaged, and one for each cause: a block that is not
+/// done, records that wait. Returns the status.
 pub fn write_verdict<W: Write>(
     outline: &Outline,
     report: &Report,
@@ -26,6 +27,9 @@ pub fn write_verdict<W: Write>(
     let undone = undone_blocks(report);
     let status = status_of(report.settled, undone);
     write_status(writer, status, undone)?;
+    if let Some(damage) = damage_in(outline, report) {
+        writeln!(writer, "{damage}")?;
+    }
     for number in 0..report.blocks.len() {
         write_causes(writer, &*outline, &*report, number)?;
     }
@@ -33,7 +37,7 @@ pub fn write_verdict<W: Write>(
 }
 
 /// How many blocks are not done, or have records that wait.
-fn undone_blocks(report: &Report) -> usize {
+pub(crate) fn undone_blocks(report: &Report) -> usize {
     let mut count = 0usize;
     for block in &report.blocks {
         if !is_through(block) {
@@ -52,7 +56,8 @@ fn is_through(block: &BlockReport) -> bool {
     }
 }
 
-fn status_of(settled: Settled, undone: usize) -> u8
+/// The status of a run that ended so, with so many blocks that are not done or have records that wait.
+pub(crate) fn status_of(settled: Settled, undone: usize) -> u8
     ensures stopped { result ≡ 3 ↔ (settled ≡ Settled.Stopped) }
     ensures through { result ≡ 0 → undone ≡ 0 }
 {

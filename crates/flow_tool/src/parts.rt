@@ -113,6 +113,7 @@ fn status_of(fault: MergeFault<'_>, parts: &[Report<'_>]) -> u8 {
         MergeFault::Write => 5,
         MergeFault::NoPart
         | MergeFault::Misfit(_, _)
+        | MergeFault::Damaged(_, _)
         | MergeFault::Kind(_, _)
         | MergeFault::Reserves(_)
         | MergeFault::Max(_)

@@ -21,7 +21,11 @@ pub fn draw<R: Files + Input + Print + AllocGlobal>(
 ) -> Result<u8, Stop> {
     let plan = read_network(rt, given.get_str("network").unwrap_or(""))?;
     let outline = outline_of(rt.alloc(), &plan)?;
-    let style = style_of(given.get_flag("dot"), coloured);
+    let style = match (given.get_flag("dot"), coloured) {
+        (true, _) => DrawStyle::Dot,
+        (false, true) => DrawStyle::Coloured,
+        (false, false) => DrawStyle::Plain,
+    };
     match given.get_str("report") {
         Some(path) => {
             let text = read_file(rt, path)?;
@@ -29,16 +33,6 @@ pub fn draw<R: Files + Input + Print + AllocGlobal>(
             print_drawing(rt, &outline, Some(&report), style, path)
         }
         None => print_drawing(rt, &outline, None, style, ""),
-    }
-}
-
-fn style_of(is_graph: bool, coloured: bool) -> DrawStyle {
-    if is_graph {
-        DrawStyle::Dot
-    } else if coloured {
-        DrawStyle::Coloured
-    } else {
-        DrawStyle::Plain
     }
 }
 

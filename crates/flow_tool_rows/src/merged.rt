@@ -1,5 +1,5 @@
 //! Reports of parts that are merged, and those that are not.
-use crate::check::{check, head_and_lines, is_due};
+use crate::check::{bytes_of, check, has_rows, head_and_lines, is_due, two_cells};
 use crate::networks::{ENOUGH, planned, report};
 use flow_outcome::{merge_reports, worst_status};
 use flow_pieces::cut_records;
@@ -96,16 +96,24 @@ link = [
 ]
 "#;
 
-/// A report of that network, in which these numbers went to `u`.
-fn passed_report(rt: &impl Abort, alloc: Global, numbers: &str) -> Vec<u8> {
-    let report = format!(in alloc;
-        "block a done\ninput []\nport 0 []\nheld 0 []\nlink 0 []\nleft []\nblock s done\ninput []\nport 0 {numbers}\nheld 0 []\nlink 1 []\nlink 2 {numbers}\nleft []\nblock t done\nport 0 []\nheld 0 []\nrecord []\nblock u done\nport 0 {numbers}\nheld 0 []\nrecord {numbers}\nquiet\n"
-    );
-    match report {
-        Ok(report) => report.into_bytes(),
-        Err(_) => panic!(rt; "out of memory"),
-    }
-}
+/// A report of that network, as `bytes_of` reads it: `t` took 1 and 2 from `a`, and 1 from `s` between them.
+const PASSED_REPORT: &str =
+    "block a done~input []~port 0 [1,2]~held 0 []~link 0 [1,2]~left []~block s done~input []~port 0 [1,4]~held 0 []~link 1 [1]~link 2 [4]~left []~block t done~port 0 [1,1,2]~held 0 []~record [1,1,2]~block u done~port 0 [4]~held 0 []~record [4]~quiet~";
+
+/// In each row words of that report, others in their place, and why it is not merged as a second part then; `merged` where it
+/// is.
+const PARTS: &str = "
+record [4] | record [4] | merged
+port 0 [1,1,2] | port 0 [1,2,1] | merged
+link 1 [1]~link 2 [4]~left []~block t done~port 0 [1,1,2]~held 0 []~record [1,1,2]~block u done~port 0 [4] | link 1 []~link 2 [1,4]~left []~block t done~port 0 [1,2]~held 0 []~record [1,2]~block u done~port 0 [1,4] | part 2: link 2 carried what link 1 admits, maybe because the part was at its end
+port 0 [1,1,2] | port 0 [1,2] | part 2: the report is damaged: t did not take at port 0 what its links gave
+port 0 [1,1,2] | port 0 [2,1,1] | part 2: the report is damaged: t did not take at port 0 what its links gave
+port 0 [1,1,2] | port 0 [1,2,3] | part 2: the report is damaged: t did not take at port 0 what its links gave
+port 0 [1,1,2] | port 0 [1,1,2,2] | part 2: the report is damaged: t did not take at port 0 what its links gave
+port 0 [4] | port 0 [] | part 2: the report is damaged: u did not take at port 0 what its links gave
+held 0 []~record [4] | held 0 [4]~record [] | part 2: the report is damaged: u is done, and something is held or left there
+left []~block t | left [3]~block t | part 2: the report is damaged: s is done, and something is held or left there
+";
 
 /// Networks that keep or count something over messages, and why their reports are not merged.
 const REFUSED: &[(&str, &str)] = &[
@@ -290,26 +298,35 @@ fn parts_are_refused(rt: HostRuntime) {
     is_refused(&rt, alloc, JOIN, &uneven, why, 1);
 }
 
-/// The list of these reports.
-fn list(rt: &impl Abort, alloc: Global, texts: &[&[u8]]) -> Vec<Vec<u8>> {
-    let mut list = Vec::new(alloc);
-    for text in texts {
-        let Ok(text) = text.to_vec(alloc) else {
-            panic!(rt; "out of memory");
-        };
-        assert!(rt; list.push(text).is_ok(), "out of memory");
+/// That report, with these words in the place of those.
+fn passed_report(rt: &impl Abort, alloc: Global, words: &str, others: &str) -> Vec<u8> {
+    let Some((before, behind)) = PASSED_REPORT.split_once(words) else {
+        panic!(rt; "the report has no such words");
+    };
+    match format!(in alloc; "{before}{others}{behind}") {
+        Ok(report) => bytes_of(rt, alloc, report.as_str()),
+        Err(_) => panic!(rt; "out of memory"),
     }
-    list
+}
+
+/// Tests that what a row makes of that report is merged, or refused as a second part.
+fn comes_to(rt: &(impl Abort + Print), alloc: Global, row: &str) {
+    let (words, cells) = two_cells(rt, row);
+    let (others, due) = two_cells(rt, cells);
+    let edited = passed_report(rt, alloc, words, others);
+    if due == "merged" {
+        let alone = [edited];
+        check(rt, row, merged(rt, alloc, PASSED, &alone) == alone[0]);
+    } else {
+        let parts = [bytes_of(rt, alloc, PASSED_REPORT), edited];
+        is_refused(rt, alloc, PASSED, &parts, due, 0);
+    }
 }
 
 #[test]
-fn ends_in_parts_are_seen(rt: HostRuntime) {
-    let alloc = rt.alloc();
-    let even = passed_report(&rt, alloc, "[2,4]");
-    let odd = passed_report(&rt, alloc, "[2,3]");
-    let one = list(&rt, alloc, &[&even]);
-    check(&rt, "even", merged(&rt, alloc, PASSED, &one) == even);
-    let two = list(&rt, alloc, &[&even, &odd]);
-    let why = "part 2: link 2 carried what link 1 admits, maybe because the part was at its end";
-    is_refused(&rt, alloc, PASSED, &two, why, 0);
+fn damaged_parts_are_refused(rt: HostRuntime) {
+    has_rows(&rt, PARTS, 10);
+    for row in PARTS.lines().skip(1) {
+        comes_to(&rt, rt.alloc(), row);
+    }
 }

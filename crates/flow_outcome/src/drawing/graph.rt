@@ -1,4 +1,5 @@
 //! A network as a graph for Graphviz.
+use crate::damage::Damage;
 use crate::drawing::notes::{
     reported, write_counts, write_crossed, write_options, write_state, write_terms,
 };
@@ -7,13 +8,17 @@ use flow_reading::{BlockReport, Report, State};
 use std::io;
 use std::io::Write;
 
-/// Writes a graph: a box for each block, and an arrow for each link.
+/// Writes a graph: a box for each block, an arrow for each link, and a title where the report is damaged.
 pub(crate) fn write_graph<W: Write>(
     outline: &Outline,
     report: Option<&Report>,
+    damage: Option<Damage<'_>>,
     writer: &mut W,
 ) -> io::Result<()> {
     writer.write_all(b"digraph network {\n  rankdir=LR;\n  node [shape=box];\n")?;
+    if let Some(damage) = damage {
+        writeln!(writer, "  label=\"{damage}\";")?;
+    }
     for (number, block) in outline.blocks.iter().enumerate() {
         write_box(writer, number, block, reported(report, number))?;
     }

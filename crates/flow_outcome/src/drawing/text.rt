@@ -1,4 +1,5 @@
 //! A network as lines of text.
+use crate::damage::Damage;
 use crate::drawing::notes::{
     reported, write_counts, write_crossed, write_options, write_state, write_terms,
 };
@@ -7,13 +8,17 @@ use flow_reading::{BlockReport, Report, State};
 use std::io;
 use std::io::Write;
 
-/// Writes a line for each block, and under it one for each of its links.
+/// Writes a line where the report is damaged, one for each block, and under it one for each of its links.
 pub(crate) fn write_text<W: Write>(
     outline: &Outline,
     report: Option<&Report>,
     coloured: bool,
+    damage: Option<Damage<'_>>,
     writer: &mut W,
 ) -> io::Result<()> {
+    if let Some(damage) = damage {
+        writeln!(writer, "{damage}")?;
+    }
     for (number, block) in outline.blocks.iter().enumerate() {
         write_block(writer, block, reported(report, number), coloured)?;
         write_links(writer, outline, report, number)?;

@@ -1,4 +1,5 @@
 //! Why reports are not merged.
+use crate::damage::Damage;
 use crate::fit::Misfit;
 use crate::kind::Kind;
 use std::fmt;
@@ -16,6 +17,8 @@ pub enum MergeFault<'n> {
     Max(usize),
     /// The report of this part is not one of the network.
     Misfit(usize, Misfit),
+    /// The report of this part is damaged.
+    Damaged(usize, Damage<'n>),
     /// This part ended with this status, and not with 0.
     Status(usize, u8),
     /// In this part a link carried what an earlier one admits, whose target may have ended before.
@@ -44,6 +47,7 @@ impl fmt::Display for MergeFault<'_> {
                 write!(f, "link {link} has a max, which counts anew in each part")
             }
             MergeFault::Misfit(part, misfit) => write!(f, "part {part}: {misfit}"),
+            MergeFault::Damaged(part, damage) => write!(f, "part {part}: {damage}"),
             MergeFault::Status(part, status) => write!(
                 f,
                 "part {part} has status {status}, and only parts with status 0 are merged"
