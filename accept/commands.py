@@ -39,6 +39,9 @@ PREPARED = [
     "truncate -s 1G large.toml",
     """yes "$(printf 'block a done\\nport 0 []\\nheld 0 []\\nleft []')" | head -n 4000000 > large.report""",
     "yes | head -n 3000000 > large.csv",
+    # A name of 40,000,000 characters.
+    "{ printf 'format = 1\\nblock = [{kind = \"buffer\", name = \"'; head -c 40000000 /dev/zero | tr '\\0' a; } > long.toml",
+    "printf '\"}]\\nlink = [{from = \"in\", to = \"in\"}]\\n' >> long.toml",
 ]
 
 LITTLE = "ulimit -v 200000"
@@ -66,6 +69,7 @@ FLOW = [
     ),
     Case("bin/flow \"$(printf 'fl\\ny')\"", 2, "", "flow: unrecognized subcommand 'fl\\ny'"),
     Case(f"{LITTLE}; bin/flow check large.toml", 4, "", "flow: memory"),
+    Case(f"{LITTLE}; bin/flow check --short long.toml", 1, 'long.toml:3:17: error: link 0 comes from "in", and no block has that name.'),
     Case("bin/flow draw examples/import.toml import.report", 0, "orders  buffer, input: done, took 3"),
     Case(
         "bin/flow draw examples/import.toml fault.report",

@@ -22,6 +22,10 @@ pub fn nearest<'w>(
     let mut least = most_edits(word);
     let mut found = None;
     for other in words {
+        // what a comparison needs grows with the length of both
+        if other.len() > LONGEST {
+            continue;
+        }
         let edits = damerau_levenshtein(alloc, word, other)?;
         if edits > 0 && edits <= least && edits < other.len() {
             if found.is_none() || edits < least {
