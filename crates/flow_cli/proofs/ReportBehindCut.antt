@@ -1,5 +1,5 @@
 -- A report of the records behind a cut, or why there is none, as it is told of the whole text.
-use Rattle.std.proofs.Common.{◌⊎◌, inl, inr, ℕ, List, Option, Some, None, Result, Ok, Err, IfOk, IfErr, IfSome, ◌≡◌, ◌∙◌, refl}
+use Rattle.std.proofs.Common.{◌⊎◌, inl, inr, Bool, true, false, ℕ, List, Option, Some, None, Result, Ok, Err, IfOk, IfErr, IfSome, ◌≡◌, ◌∙◌, refl}
 use Rattle.flow_value.specs.declared.steps.Steps.{Steps}
 use Rattle.flow_link.specs.Layout.{Layout}
 use Rattle.flow_link.specs.Trace.{Run}
@@ -93,6 +93,13 @@ refused_of_any text records workers limit Ids h = record {
   used_up = h.used_up;
 }
 refused_of_any text records workers limit Memory _ = tt
+
+-- the same of what it is told as: as want of memory where memory was out
+pub told_of_any : (text : List ℕ) (records : Option (List ℕ)) (workers limit : ℕ) (lacks_memory : Bool) (refusal told : RunRefusal)
+    → (lacks_memory ≡ true → told ≡ Memory) → (lacks_memory ≡ false → told ≡ refusal)
+    → IsUnreported text records workers limit refusal → IsUnreported text None workers limit told
+told_of_any text records workers limit true refusal told memory other h = rw (memory refl) tt
+told_of_any text records workers limit false refusal told memory other h = rw (other refl) (refused_of_any text records workers limit refusal h)
 
 -- what is read is the same bytes as what is cut
 whole_as : (known : Option (List ℕ)) (read text : List ℕ) → IfSome known (λ bytes. read ≡ bytes) → text ≡ read → IfSome known (λ bytes. text ≡ bytes)

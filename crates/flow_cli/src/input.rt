@@ -1,6 +1,6 @@
 //! Runs a network over records, from standard input and files to standard output. Where the promise is about the
 //! writer, the whole report is made before any of it is written; else it goes through a buffer.
-ghost use Rattle.std.specs.Prelude.{◌≡◌, ◌⊎◌, IfOk, IfErr, IfSome, None, Some};
+ghost use Rattle.std.specs.Prelude.{◌≡◌, ◌⊎◌, true, false, IfOk, IfErr, IfSome, None, Some};
 ghost use Rattle.std.specs.Io.KnownBytes.{Appends};
 ghost use Rattle.flow_run.specs.Left.{IsLeft};
 ghost use Rattle.flow_run.specs.Ran.{IsReported, IsUnreported};
@@ -9,6 +9,7 @@ ghost use Rattle.flow_cli.specs.Reported.{IsReportedIn, IsReportedOfAny, IsRefus
 ghost use Rattle.flow_cli.specs.Request.{IsCrew, default_limit, default_workers};
 
 use crate::request::{Bounds, DEFAULT_BOUNDS};
+use crate::steady::Steady;
 use flow_run::{Ran, RunRefusal, TextFault, run_and_keep, split_input};
 use flow_text::write_bytes;
 use std::alloc::Global;
@@ -50,14 +51,53 @@ fn run_buffered<C: Threads + Wait + Clock + CpuClock + Sync, R: Read + Drop, W: 
     let Ok(mut buffer) = BufWriter::new(alloc, writer) else {
         return Err(RunRefusal::Memory);
     };
+    let mut records = Steady {
+        reader: records,
+        lacks_memory: false,
+    };
     let Bounds { workers, limit } = bounds;
-    let (ran, net) = run_and_keep(rt, alloc, text, records, &mut buffer, workers, limit)?;
-    // The process is about to end: its memory goes back at once, and not value by value.
-    mem::forget(net);
-    match buffer.into_inner() {
-        Ok(_) => Ok(ran),
-        Err(_) => Err(RunRefusal::Text(TextFault::Write)),
+    match run_and_keep(rt, alloc, text, &mut records, &mut buffer, workers, limit) {
+        Ok((ran, net)) => {
+            // The process is about to end: its memory goes back at once, and not value by value.
+            mem::forget(net);
+            send(buffer)?;
+            Ok(ran)
+        }
+        Err(refusal) => {
+            abandon(buffer);
+            Err(told(refusal, records.lacks_memory))
+        }
     }
+}
+
+/// What a run is refused with. A reader of records tells want of memory as any failure to read.
+fn told(refusal: RunRefusal, lacks_memory: bool) -> RunRefusal
+    ensures memory { lacks_memory ≡ true → result ≡ RunRefusal.Memory }
+    ensures other { lacks_memory ≡ false → result ≡ refusal }
+{
+    if lacks_memory {
+        RunRefusal::Memory
+    } else {
+        refusal
+    }
+}
+
+/// Writes what a buffer holds, and nothing more where that fails.
+fn send<W: Write + Drop>(buffer: BufWriter<W>) -> Result<(), RunRefusal>
+    ensures { IfErr result (λ refusal. refusal ≡ RunRefusal.Text TextFault.Write) }
+{
+    match buffer.into_inner() {
+        Ok(_) => Ok(()),
+        Err(error) => {
+            abandon(error.into_inner());
+            Err(RunRefusal::Text(TextFault::Write))
+        }
+    }
+}
+
+/// Lets a buffer go without what it holds. Dropped as it is, it would write that once more.
+fn abandon<W: Write + Drop>(buffer: BufWriter<W>) {
+    let _ = buffer.into_parts();
 }
 
 /// Runs the network at the beginning of what is read over the records behind it.

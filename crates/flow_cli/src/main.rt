@@ -8,6 +8,7 @@ mod conclusion;
 mod input;
 mod number;
 mod request;
+mod steady;
 
 use crate::conclusion::{Conclusion, status_of_conclusion, write_conclusion};
 use crate::input::{run_file, run_input, unread};
