@@ -61,26 +61,6 @@ module _ {W : Type 0} (layout : Layout W) (meaning : ℕ → Value → Result (L
       looks_further InputLooks (input_of net q) (input_of mid q) (input_of (looked_at layout meaning n mid) q)
       (input_looked n net q) (one_link n mid q)
 
-  -- what was received at exits, and asked for, stays
-  source_stays : (l : ℕ) (phase : Phase) (source : LinkSource) (net : NetState)
-      → callers_in (source_sees layout meaning l phase source net) ≡ callers_in net
-  source_stays l phase (Block s) net = refl
-  source_stays l phase (Input b) net = refl
-
-  target_stays : (l : ℕ) (phase : Phase) (target : LinkTarget) (net : NetState)
-      → callers_in (target_sees layout meaning l phase target net) ≡ callers_in net
-  target_stays l phase (Port t p) net = refl
-  target_stays l phase Exit net = map-set_same caller_of net.exits (exit_place layout l) _ fresh_exit refl
-
-  pub callers_looked : (n : ℕ) (net : NetState) → callers_in (all_looked layout meaning n net) ≡ callers_in net
-  callers_looked zero net = refl
-  callers_looked (suc n) net =
-      let before = all_looked layout meaning n net in
-      let phase = (line_at before n).phase in
-      let link = link_in layout.links n in
-      source_stays n phase link.source (target_sees layout meaning n phase link.target before)
-      ∙ target_stays n phase link.target before ∙ callers_looked n net
-
 -- What looks leave of an input
 
 Views-set : IsSet SendView

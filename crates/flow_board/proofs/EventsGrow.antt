@@ -31,9 +31,8 @@ use Rattle.flow_net.specs.Happened.{Happened}
 use Rattle.flow_poll.specs.Turns.{Extends}
 use Rattle.flow_poll.proofs.EachGoes.{extends_further, extends_itself}
 use Rattle.flow_task.specs.Begun.{JournalsExtend}
-use Rattle.flow_core.proofs.SchedulesGoWell.{callers_stay}
+use Rattle.flow_net.proofs.NoneAsked.{callers_looked, callers_on}
 use Rattle.flow_board.specs.Home.{HasComeBack, HasComeHome, TakenHome}
-use Rattle.flow_board.proofs.AllLooked.{callers_looked}
 use Rattle.flow_task.proofs.JournalsGrow.{grows}
 use Rattle.flow_task.proofs.TurnsGrow.{extends_prop}
 
@@ -121,12 +120,6 @@ module _ {W : Type 0} (layout : Layout W) (meaning : ℕ → Value → Result (L
     (home_happens n old mid before, record { event = NetEvent.at_link last.link last.next; may = last.may; new_is = last.new_is }),
   )
 
-  -- whatever happens, nothing is received or asked for at exits
-  pub happened_callers : (n : ℕ) (old new : NetState) → Happened layout meaning n old new → callers_in new ≡ callers_in old
-  happened_callers zero old new same = ap callers_in same
-  happened_callers (suc n) old new (mid, (before, last)) =
-      ap callers_in last.new_is ∙ callers_stay layout meaning last.event mid ∙ happened_callers n old mid before
-
 module _ {W : Type 0} (layout : Layout W) where
   pub home_extends : (works : W → Value → Result (List Value) WorkFault) (old new : NetState) → HasComeHome works layout old new
       → JournalsExtend layout old new
@@ -139,7 +132,7 @@ module _ {W : Type 0} (layout : Layout W) where
       → callers_in new ≡ callers_in old
   home_callers works old new come =
       ∥∥₁_elim come (callers_prop (callers_in new) (callers_in old)) (λ home.
-      happened_callers layout (works_of works layout) home.0 old new
+      callers_on layout (works_of works layout) home.0 old new
       (home_happens layout (works_of works layout) home.0 old new home.1))
 
   pub back_callers : (works : W → Value → Result (List Value) WorkFault) (old new : NetState) → HasComeBack works layout old new

@@ -1,4 +1,5 @@
 pub mod AllLooked
+pub mod AskedNoMore
 pub mod EventsGrow
 pub mod JournalsBegin
 pub mod PartsKept

@@ -44,14 +44,16 @@ use Rattle.flow_task.specs.Entries.{took_at}
 use Rattle.flow_task.specs.Events.{HasLooked, InputLooks}
 use Rattle.flow_board.specs.Gathers.{EntryIsKept, ExitIsKept, IsToldOf}
 use Rattle.flow_task.specs.Inputs.{is_of_input}
-use Rattle.flow_task.specs.Lefts.{EntryIsAt, ExitIsAt}
+use Rattle.flow_task.specs.Lefts.{EntryIsAt}
 use Rattle.flow_task.specs.Numbers.{place_in}
 use Rattle.flow_task.specs.Orders.{HasLookedAround}
 use Rattle.flow_task.specs.Parts.{entry_board, entry_link, entry_state, exit_board, exit_link, exit_state}
 use Rattle.flow_task.specs.declared.board.Board.{Board}
 use Rattle.flow_task.specs.declared.numbered.Entry.{Entry}
 use Rattle.flow_task.specs.declared.numbered.Exit.{Exit}
-use Rattle.flow_board.proofs.AllLooked.{callers_looked, input_looked, looks_leave}
+use Rattle.flow_net.proofs.NoneAsked.{callers_looked}
+use Rattle.flow_board.proofs.AllLooked.{input_looked, looks_leave}
+use Rattle.flow_board.proofs.AskedNoMore.{asked_no_more}
 use Rattle.flow_task.proofs.InputPlaces.{input_placed}
 
 Views-set : IsSet SendView
@@ -172,8 +174,9 @@ module _ {W : Type 0} (meaning : W → Value → Result (List Value) WorkFault) 
     }
 
   -- an exit
-  module _ {w : _} {e : _} (exit : Exit W w e) (its : exit_board exit ≡ board) (at : ExitIsAt board mid.exits exit) where
-    same_caller : caller_of (exit_at layout net (exit_link exit)) ≡ caller_of (exit_state exit)
+  module _ {w : _} {e : _} (exit : Exit W w e) (its : exit_board exit ≡ board)
+      (at : get_or mid.exits (exit_place layout (exit_link exit)) fresh_exit ≡ asked_no_more (exit_state exit)) where
+    same_caller : caller_of (exit_at layout net (exit_link exit)) ≡ caller_of (asked_no_more (exit_state exit))
     same_caller =
         let place = exit_place layout (exit_link exit) in
         sym (get_or-map caller_of net.exits place fresh_exit)
@@ -186,7 +189,7 @@ module _ {W : Type 0} (meaning : W → Value → Result (List Value) WorkFault) 
 
     pub exit_kept : ExitIsKept meaning board net exit
     exit_kept = record {
-      caller = same_caller;
+      not_asked = ap (λ (caller : CallerState). caller.asked) same_caller;
       received = same_received;
       given = λ b from.
           let l = exit_link exit in

@@ -1,5 +1,5 @@
 -- What gathering makes of parts, and why it does not.
-use Rattle.std.specs.Prelude.{◌≡◌, ℕ, ◌+◌, ◌<◌, ◌≤◌, true, List, Option, Some, None, Result, length, map, take}
+use Rattle.std.specs.Prelude.{◌≡◌, ℕ, ◌+◌, ◌<◌, ◌≤◌, true, false, List, Option, Some, None, Result, length, map, take}
 use Rattle.std.specs.List.Sorted.{IsPermutation}
 use Rattle.flow_value.specs.declared.value.Value.{Value}
 use Rattle.flow_value.specs.declared.work.WorkFault.{WorkFault}
@@ -12,7 +12,6 @@ use Rattle.flow_link.specs.declared.plan.LinkTarget.TheVariants.{Port}
 use Rattle.flow_core.specs.Inputs.{input_of}
 use Rattle.flow_core.specs.State.{NetState, exit_at}
 use Rattle.flow_core.specs.Statements.{IsReceivedOf}
-use Rattle.flow_exit.specs.Exit.{caller_of}
 use Rattle.flow_input.specs.Sends.{sends_of}
 use Rattle.flow_net.specs.Net.{run_with}
 use Rattle.flow_task.specs.Begun.{begun_input}
@@ -81,9 +80,9 @@ module _ {W : Type 0} {w : _} {e : _} (meaning : W → Value → Result (List Va
     pub taken : (t p : ℕ) → (link_in (board_layout board).links (entry_link entry)).target ≡ Port t p
         → IsToldOf (sends_of (entry_state entry)).accepted (took_over (entry_link entry) (marks_of (run_with meaning (board_layout board) net) t))
 
-  -- the end of an exit has what was received there, and whether a receive waits
+  -- the end of an exit has what was received there, and no receive waits any more
   pub record ExitIsKept (exit : Exit W w e) : Type 0 where
-    pub caller : caller_of (exit_at (board_layout board) net (exit_link exit)) ≡ caller_of (exit_state exit)
+    pub not_asked : (exit_at (board_layout board) net (exit_link exit)).asked ≡ false
     pub received : (exit_at (board_layout board) net (exit_link exit)).received ≡ (exit_state exit).received
     pub given : (b : ℕ) → (link_in (board_layout board).links (exit_link exit)).source ≡ Block b
         → IsReceivedOf (exit_state exit).received (gave_over (exit_link exit) (marks_of (run_with meaning (board_layout board) net) b))

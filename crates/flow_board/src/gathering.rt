@@ -1,5 +1,5 @@
 //! The parts of a scattered network are put together again.
-ghost use Rattle.std.specs.Prelude.{◌≡◌, ◌<◌, All, get_or, length, map, take, IfErr, IfOk};
+ghost use Rattle.std.specs.Prelude.{◌≡◌, ◌<◌, true, false, All, get_or, length, map, take, IfErr, IfOk};
 ghost use Rattle.flow_lawful.specs.Lawful.{Lawful};
 ghost use Rattle.flow_lists.specs.Lists.{below};
 ghost use Rattle.flow_block.specs.Planned.{links_out};
@@ -7,8 +7,9 @@ ghost use Rattle.flow_core.specs.InOrder.{journals_of};
 ghost use Rattle.flow_core.specs.Inputs.{InputsStay};
 ghost use Rattle.flow_core.specs.State.{NetState, no_node};
 ghost use Rattle.flow_exec.specs.Works.{works_of};
-ghost use Rattle.flow_exit.specs.Exit.{fresh_exit};
+ghost use Rattle.flow_exit.specs.Exit.{ExitCall, after_exit, fresh_exit};
 ghost use Rattle.flow_input.specs.Input.{no_input};
+ghost use Rattle.flow_net.specs.Asked.{none_asked};
 ghost use Rattle.flow_net.specs.Net.{layout_in, parts_of, run_of};
 ghost use Rattle.flow_task.specs.Absent.{AllThere};
 ghost use Rattle.flow_task.specs.Begun.{JournalsGoOn, ClosedInputsStay, begun_in};
@@ -21,6 +22,7 @@ ghost use Rattle.flow_task.specs.Orders.{AreInOrder, HasLookedAround};
 ghost use Rattle.flow_task.specs.Parts.{AllEntriesOf, AllExitsOf, AllTasksOf, board_layout, board_wires, marks_in};
 ghost use Rattle.flow_task.specs.Untouched.{AllUntouched};
 
+use flow_exit::ExitEnd;
 use flow_net::Net;
 use flow_task::{Blocks, Board, Exits, Inputs, Parts};
 use flow_value::Runs;
@@ -147,13 +149,24 @@ impl Apart {
         blocks.take(&board, &mut tasks);
         inputs.take(&board, &mut tasks, &mut entries);
         exit_ends.take(&board, exits);
+        ask_no_more(&mut exit_ends.exits);
         put_together(board, blocks, inputs, exit_ends)
+    }
+}
+
+/// No receive waits at these exits any more.
+fn ask_no_more(exits: &mut Vec<ExitEnd>)
+    ensures { exits.new.items ≡ map (after_exit (ExitCall.ask false)) exits.old.items }
+{
+    for place in 0..exits.len() {
+        exits[place].ask_no_more();
     }
 }
 
 /// Closes the wires of a network with all its ends, and puts it together.
 fn put_together<W: Runs>(board: Board<W>, blocks: Blocks, inputs: Inputs, exits: Exits) -> Net<W>
     ghost net: { NetState }
+    requires unasked { none_asked net ≡ true }
     requires nodes { net.nodes ≡ blocks.nodes.items }
     requires inputs { net.inputs ≡ inputs.inputs.items }
     requires exits { net.exits ≡ exits.exits.items }

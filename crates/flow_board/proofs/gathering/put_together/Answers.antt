@@ -1,14 +1,24 @@
-use Rattle.std.proofs.Common.{rules, ◌≡◌, length, map, refl, ap, ◌∙◌}
+use Rattle.std.proofs.Common.{rules, ◌≡◌, List, length, map, refl, ap, ◌∙◌}
 use Rattle.flow_link.specs.Planned.{layout_of}
 use Rattle.flow_block.specs.Node.{NodeState}
 use Rattle.flow_core.specs.InOrder.{all_looked}
 use Rattle.flow_exec.specs.Works.{works_of}
+use Rattle.flow_exit.specs.Exit.{ExitState, caller_of}
+use Rattle.flow_net.specs.Asked.{none_wait}
 use Rattle.flow_apart.specs.Apart.{apart_in}
 use Rattle.flow_task.proofs.Scatters.{moved}
 use Rattle.flow_board.proofs.gathering.put_together.Goals as goal
 
 pub close-requires : goal.close-requires
-close-requires g c κs within = (within, c.requires.1)
+close-requires g c κs within = (within, c.requires.1.1)
+
+pub join-requires-clause-in_order : goal.join-requires-clause-in_order
+join-requires-clause-in_order g c =
+    search rules
+
+pub join-requires-clause-unasked : goal.join-requires-clause-unasked
+join-requires-clause-unasked g c =
+    ap (λ (exits : List ExitState). none_wait (map caller_of exits)) c.close.ensures.exits ∙ c.requires.1.0
 
 pub returns-clause-same_layout : goal.returns-clause-same_layout
 returns-clause-same_layout g c = c.join.ensures.same_layout ∙ ap layout_of c.close.ensures.plan
@@ -31,7 +41,3 @@ returns-clause-looked g c =
           closed.plan c.args.board.rest.plan closed.nodes.items g.net.nodes closed.inputs.items g.net.inputs closed.exits.items g.net.exits
           c.close.ensures.plan c.close.ensures.nodes c.close.ensures.inputs c.close.ensures.exits refl,
     )
-
-pub join-requires : goal.join-requires
-join-requires g c =
-    search rules

@@ -1,4 +1,4 @@
-use Rattle.std.proofs.Common.{◌≡◌, ℕ, ◌<◌, false, length, map, get_or, take, refl, sym, ap, ◌∙◌, subst}
+use Rattle.std.proofs.Common.{◌≡◌, ℕ, ◌<◌, false, List, length, map, get_or, take, refl, sym, ap, ◌∙◌, subst}
 use Rattle.std.proofs.Math.Logic.{∥∥₁_elim}
 use Rattle.std.proofs.Math.Nat.{ℕ_set}
 use Rattle.std.specs.declared.snapshot.Snapshot.{Snapshot}
@@ -11,8 +11,10 @@ use Rattle.flow_block.specs.Node.{NodeState}
 use Rattle.flow_core.specs.InOrder.{NetInOrder, all_looked, journals_of}
 use Rattle.flow_core.specs.State.{NetState, line_at}
 use Rattle.flow_exec.specs.Works.{works_of}
+use Rattle.flow_exit.specs.Exit.{ExitState, caller_of}
 use Rattle.flow_apart.specs.Apart.{apart_in, apart_layout}
 use Rattle.flow_apart.specs.declared.parts.NetParts.{NetParts}
+use Rattle.flow_net.specs.Asked.{none_wait}
 use Rattle.flow_net.specs.Net.{layout_in, parts_of}
 use Rattle.flow_task.specs.Frames.{IsRoomFor}
 use Rattle.flow_task.specs.Orders.{AreInOrder, HasLookedAround}
@@ -28,8 +30,11 @@ use Rattle.flow_board.proofs.scattering.scatter_home.Goals as goal
 abbrev begun_by : {W : Type 0} → Snapshot (NetParts W) → NetState
 begun_by begun = apart_in begun.value
 
-pub join-requires : goal.join-requires
-join-requires g c =
+pub join-requires-clause-unasked : goal.join-requires-clause-unasked
+join-requires-clause-unasked g c = c.into_parts-apart.ensures.unasked
+
+pub join-requires-clause-in_order : goal.join-requires-clause-in_order
+join-requires-clause-in_order g c =
     let net = c.args.net in
     let apart = c.into_parts-apart in
     let means = g.W.Runs.meaning in
@@ -121,8 +126,12 @@ fill-requires g c κs within =
       ),
     )
 
-pub join-requires-in-Err-wire_up : goal.join-requires-in-Err-wire_up
-join-requires-in-Err-wire_up g c =
+pub join-requires-in-Err-wire_up-clause-unasked : goal.join-requires-in-Err-wire_up-clause-unasked
+join-requires-in-Err-wire_up-clause-unasked g c =
+    ap (λ (exits : List ExitState). none_wait (map caller_of exits)) (ap (λ v. v.items) c.wire_up.ensures.exits) ∙ c.into_parts-apart.ensures.unasked
+
+pub join-requires-in-Err-wire_up-clause-in_order : goal.join-requires-in-Err-wire_up-clause-in_order
+join-requires-in-Err-wire_up-clause-in_order g c =
     let net = c.args.net in
     let apart = c.into_parts-apart in
     let old = apart.result in

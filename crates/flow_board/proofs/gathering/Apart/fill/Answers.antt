@@ -1,19 +1,23 @@
 use Rattle.std.proofs.Common.{◌≡◌, ℕ, ◌+◌, All, List, [], length, map, drop, slice_index_or, take, get_or, refl, sym, ap, ◌∙◌, subst, arith}
 use Rattle.std.proofs.Math.Logic.{∥∥₁_map}
 use Rattle.std.proofs.Math.ListN.{get_or-map}
+use Rattle.std.proofs.lemmas.List.{length-map}
 use Rattle.flow_lists.specs.Lists.{below, numbers_from}
 use Rattle.flow_link.specs.Layout.{Layout}
 use Rattle.flow_link.specs.Planned.{layout_of}
 use Rattle.flow_link.specs.declared.trace.Mark.{Mark}
 use Rattle.flow_block.specs.Node.{NodeState}
+use Rattle.flow_block.specs.Planned.{exit_place, links_out}
 use Rattle.flow_core.proofs.AllLook.{looks_leave_posted}
 use Rattle.flow_core.proofs.InputsChange.{all_further}
 use Rattle.flow_core.specs.Inputs.{InputsStay, input_of}
 use Rattle.flow_core.specs.Keeps.{NetKeeps}
 use Rattle.flow_core.specs.State.{NetState, no_node}
 use Rattle.flow_exec.specs.Works.{works_of}
+use Rattle.flow_exit.specs.Exit.{ExitState, caller_of}
 use Rattle.flow_input.proofs.PostedKept.{posted_is_kept}
 use Rattle.flow_input.specs.Input.{no_input}
+use Rattle.flow_net.specs.Asked.{none_wait}
 use Rattle.flow_net.specs.Net.{parts_of}
 use Rattle.flow_poll.specs.Turns.{Extends}
 use Rattle.flow_task.specs.Begun.{begun_in, begun_journal}
@@ -22,10 +26,11 @@ use Rattle.flow_task.specs.Inputs.{input_due, links_of_inputs}
 use Rattle.flow_task.specs.Lanes.{lane_count}
 use Rattle.flow_task.specs.Lefts.{EntryIsAt}
 use Rattle.flow_task.specs.Numbers.{closed_before, task_count}
-use Rattle.flow_task.specs.Parts.{AllTasksOf, marks_in, task_number}
+use Rattle.flow_task.specs.Parts.{AllTasksOf, exit_link, marks_in, task_number}
 use Rattle.flow_task.specs.Untouched.{AllUntouched}
 use Rattle.flow_task.specs.declared.numbered.Entry.{Entry}
 use Rattle.flow_board.proofs.AllLooked.{input_looked}
+use Rattle.flow_board.proofs.AskedNoMore.{asked_no_more, due_as_before, laws_stay, none_waits, there}
 use Rattle.flow_task.proofs.InputsStayed.{all_stay, closed_stay, looked_stays}
 use Rattle.flow_board.proofs.JournalsBegin.{journals_begin}
 use Rattle.flow_task.proofs.Makes.{numbers_behind, tasks_behind}
@@ -59,31 +64,36 @@ put_together-requires g c κs within =
     let layout = layout_of board.rest.plan in
     let wires = board.wires.items in
     let told = board.told ∙ ap length board.inputs_are in
-    let inputs = c.take-2.new.self.inputs.items in (
+    let inputs = c.take-2.new.self.inputs.items in
+    let taken = c.take-3.new.self.exits.items in
+    let exits = c.ask_no_more.new.exits.items in (
       within,
       (
-        refl,
+        ap (λ (all : List ExitState). none_wait (map caller_of all)) c.ask_no_more.ensures ∙ none_waits taken,
         (
           refl,
           (
             refl,
             (
-              record {
-                node_count = c.take.ensures.count;
-                nodes_law = c.take.ensures.laws;
-                input_count = c.take-2.ensures.count ∙ told;
-                inputs_law = λ q small. c.take-2.ensures.laws q (omega (arith, small, told));
-                exit_count = c.take-3.ensures.count;
-                exits_law = c.take-3.ensures.laws;
-              },
+              refl,
               (
-                c.take.ensures.outs,
+                record {
+                  node_count = c.take.ensures.count;
+                  nodes_law = c.take.ensures.laws;
+                  input_count = c.take-2.ensures.count ∙ told;
+                  inputs_law = λ q small. c.take-2.ensures.laws q (omega (arith, small, told));
+                  exit_count = ap length c.ask_no_more.ensures ∙ length-map taken asked_no_more ∙ c.take-3.ensures.count;
+                  exits_law = λ k small. laws_stay taken exits c.ask_no_more.ensures k (c.take-3.ensures.laws k small);
+                },
                 (
-                  c.take.ensures.ins,
+                  c.take.ensures.outs,
                   (
-                    c.take-2.ensures.ends
-                        ∙ ap (λ (n : ℕ). map (λ q. input_due layout wires (get_or (links_of_inputs layout) q 0) (get_or inputs q no_input)) (below n)) told,
-                    c.take-3.ensures.ends,
+                    c.take.ensures.ins,
+                    (
+                      c.take-2.ensures.ends
+                          ∙ ap (λ (n : ℕ). map (λ q. input_due layout wires (get_or (links_of_inputs layout) q 0) (get_or inputs q no_input)) (below n)) told,
+                      c.take-3.ensures.ends ∙ due_as_before taken exits c.ask_no_more.ensures board (length (links_out layout)),
+                    ),
                   ),
                 ),
               ),
@@ -120,7 +130,7 @@ returns-clause-posted g c =
     let start : NetState = record {
       nodes = c.take.new.self.nodes.items;
       inputs = inputs;
-      exits = c.take-3.new.self.exits.items;
+      exits = c.ask_no_more.new.exits.items;
       lines = looked.0;
     } in
     closed_stay board net (λ q low shut.
@@ -138,7 +148,7 @@ returns-clause-inputs_stay g c = λ untouched.
     let start : NetState = record {
       nodes = c.take.new.self.nodes.items;
       inputs = c.take-2.new.self.inputs.items;
-      exits = c.take-3.new.self.exits.items;
+      exits = c.ask_no_more.new.exits.items;
       lines = looked.0;
     } in
     let all = subst (AllUntouched board) (sym c.from_vec-entries.ensures.items) untouched in
@@ -155,7 +165,7 @@ returns-clause-entries g c =
     let mid : NetState = record {
       nodes = c.take.new.self.nodes.items;
       inputs = c.take-2.new.self.inputs.items;
-      exits = c.take-3.new.self.exits.items;
+      exits = c.ask_no_more.new.exits.items;
       lines = board.rest.lines.items;
     } in
     let at = subst (λ (all : List (Entry _ _ _)). All (λ entry. EntryIsAt board mid.inputs entry) all) c.from_vec-entries.ensures.items
@@ -174,10 +184,12 @@ returns-clause-exits g c =
     let mid : NetState = record {
       nodes = c.take.new.self.nodes.items;
       inputs = c.take-2.new.self.inputs.items;
-      exits = c.take-3.new.self.exits.items;
+      exits = c.ask_no_more.new.exits.items;
       lines = board.rest.lines.items;
     } in
     λ k d low.
     let exit = slice_index_or exits k d in
     exit_kept g.W.Runs.meaning board (parts_of net) mid kept c.put_together.ensures.looked exit
-    (each_exit board exits c.requires.exits_of k d low) (c.take-3.ensures.exits k d low)
+    (each_exit board exits c.requires.exits_of k d low)
+    (there c.take-3.new.self.exits.items mid.exits c.ask_no_more.ensures (exit_place (layout_of board.rest.plan) (exit_link exit))
+    ∙ ap asked_no_more (c.take-3.ensures.exits k d low))
