@@ -1,5 +1,5 @@
--- What the callers of exits have received, and ask for, stays where a network is scattered and put together again.
-use Rattle.std.proofs.Common.{◌≡◌, ℕ, zero, suc, ◌+◌, ◌<◌, true, All, List, [], ◌∷◌, length, map, get_or, Result, refl, sym, ap, ◌∙◌, subst, arith, eqb-true}
+-- What the callers of exits have received stays where a network is scattered and put together again, and no receive waits there.
+use Rattle.std.proofs.Common.{◌≡◌, ℕ, zero, suc, ◌+◌, ◌<◌, Bool, true, All, List, [], ◌∷◌, length, map, get_or, Result, refl, sym, ap, ◌∙◌, subst, arith, eqb-true}
 use Rattle.std.proofs.Math.ListN.{get_or-map}
 use Rattle.std.proofs.Math.Logic.{∥∥₁_elim}
 use Rattle.std.proofs.Math.Nat.{ℕ_set}
@@ -14,9 +14,11 @@ use Rattle.flow_block.specs.Planned.{exit_place, links_out}
 use Rattle.flow_core.specs.Keeps.{NetKeeps}
 use Rattle.flow_core.specs.State.{NetState, callers_in}
 use Rattle.flow_exec.specs.Works.{works_of}
-use Rattle.flow_exit.specs.Exit.{ExitState, caller_of, fresh_exit}
+use Rattle.flow_exit.specs.Exit.{CallerState, ExitState, caller_of, fresh_exit}
+use Rattle.flow_net.specs.Asked.{none_asked}
 use Rattle.flow_net.specs.Net.{layout_in, parts_of}
 use Rattle.flow_net.specs.declared.net.Net.{Net}
+use Rattle.flow_net.proofs.NoneAsked.{not_asked_at}
 use Rattle.flow_task.specs.Numbers.{entry_count, is_exit_number, task_count}
 use Rattle.flow_task.specs.declared.board.Board.{Board}
 use Rattle.flow_task.specs.declared.numbered.Exit.{Exit}
@@ -33,6 +35,14 @@ first_of (n ∷ ns) = n
 abbrev rest_of : List ℕ → List ℕ
 rest_of [] = []
 rest_of (n ∷ ns) = ns
+
+-- callers that have received the same and ask for the same
+abbrev caller_with : List Value → Bool → CallerState
+caller_with received asked = record { received = received; asked = asked }
+
+same_caller : (x y : ExitState) → x.received ≡ y.received → x.asked ≡ y.asked → caller_of x ≡ caller_of y
+same_caller x y received asked =
+    ap (λ (values : List Value). caller_with values x.asked) received ∙ ap (λ (waits : Bool). caller_with y.received waits) asked
 
 -- lists of one length with the same elements at each place
 by_places : {A : Type 0} (xs ys : List A) (d : A) → length xs ≡ length ys → ((k : ℕ) → k < length xs → get_or xs k d ≡ get_or ys k d) → xs ≡ ys
@@ -92,15 +102,20 @@ module _ {W : Type 0} {w : _} {e : _} (board : Board W) where
       (numbers ∙ ap (λ (n : ℕ). numbers_from (first board) n) (sym count) ∙ ap (λ (n : ℕ). numbers_from n (length exits)) begin) of
       (λ k low. ap (λ (states : List ExitState). get_or states k fresh_exit) same ∙ ap (λ (n : ℕ). get_or (begun_in board).exits n fresh_exit) (omega arith))
 
-  -- a network that is put together: its callers have what they had
-  module _ (meaning : W → Value → Result (List Value) WorkFault) (net : NetState) where
+  -- a network that is put together: its callers have what they had, and no receive waited
+  module _ (meaning : W → Value → Result (List Value) WorkFault) (net : NetState) (unasked : none_asked (begun_in board) ≡ true) where
     same_at : (i k : ℕ) (exits : List (Exit W w e)) → map exit_number exits ≡ numbers_from (first board + i) (length exits) → AllExitsOf board exits
         → All (λ exit. ExitIsKept meaning board net exit) exits → All (IsUncalled board) exits → k < length exits → SameAt board net (i + k)
     same_at i k [] numbers of kept uncalled low = absurd (omega (arith, low))
     same_at i zero (exit ∷ exits) numbers of kept uncalled low =
         let place = at_place exit i of.0 (ap first_of numbers) in
         let here : exit_place (layout board) (exit_link exit) ≡ i + 0 = omega (arith, place) in
-        subst (SameAt board net) here ((kept 0 exit (omega arith)).caller ∙ uncalled 0 exit (omega arith))
+        let its = kept 0 exit (omega arith) in
+        let there = exit_place (layout board) (exit_link exit) in
+        subst (SameAt board net) here
+        (same_caller (get_or net.exits there fresh_exit) (get_or (begun_in board).exits there fresh_exit)
+        (its.received ∙ ap (λ (caller : CallerState). caller.received) (uncalled 0 exit (omega arith)))
+        (its.not_asked ∙ sym (not_asked_at (begun_in board) unasked there)))
     same_at i (suc k) (exit ∷ exits) numbers of kept uncalled low =
         let next : suc i + k ≡ i + suc k = omega arith in
         subst (SameAt board net) next

@@ -1,5 +1,5 @@
 -- A network goes on, step by step.
-use Rattle.std.proofs.Common.{◌≡◌, ℕ, All, List, length, map, ap, Result, Ok, Err, OnOk, OnErr, refl, sym, ◌∙◌, subst}
+use Rattle.std.proofs.Common.{◌≡◌, ℕ, true, All, List, length, map, ap, Result, Ok, Err, OnOk, OnErr, refl, sym, ◌∙◌, subst}
 use Rattle.std.proofs.lemmas.List.{length-map}
 use Rattle.std.specs.List.Sorted.{IsPermutation}
 use Rattle.std.proofs.lemmas.List.Sorted.{All-permutation}
@@ -17,6 +17,8 @@ use Rattle.flow_core.proofs.InputsChange.{all_further, all_same}
 use Rattle.flow_exec.specs.Works.{works_of}
 use Rattle.flow_moves.proofs.MerelyKept.{lawful_merely}
 use Rattle.flow_moves.proofs.PlansRun.{plan_runs}
+use Rattle.flow_net.proofs.NoneAsked.{callers_on}
+use Rattle.flow_net.specs.Asked.{none_asked}
 use Rattle.flow_net.specs.Net.{NetGoesOn, layout_in, net_after, parts_of, run_of}
 use Rattle.flow_net.specs.declared.net.Net.{Net}
 use Rattle.flow_poll.proofs.EachGoes.{extends_itself}
@@ -27,7 +29,7 @@ use Rattle.flow_task.specs.Absent.{AllThere}
 use Rattle.flow_task.specs.declared.board.Board.{Board}
 use Rattle.flow_task.specs.declared.numbered.Entry.{Entry}
 use Rattle.flow_task.specs.declared.numbered.Parts.{Parts}
-use Rattle.flow_board.proofs.EventsGrow.{event_grows, extends_on, happened_callers, happened_grows}
+use Rattle.flow_board.proofs.EventsGrow.{event_grows, extends_on, happened_grows}
 use Rattle.flow_crew.specs.Runs.{IsGatheredOf, IsLeft, IsLeftOf, IsScatteredOf, IsUncalled, MayBeGathered, RunsOn}
 use Rattle.flow_crew.proofs.Callers.{all_uncalled}
 use Rattle.flow_crew.specs.declared.run.RunFault.{RunFault}
@@ -69,13 +71,14 @@ module _ {W : Type 0} {w : _} {e : _} where
   pub may_gather : (board : Board W) (parts : Parts W w e) → parts.board ≡ board → AllTasksOf board parts.tasks.items
       → AllEntriesOf board parts.entries.items → AllExitsOf board parts.exits.items
       → AllThere board parts.tasks.items parts.entries.items parts.exits.items → AllUntouched board parts.entries.items
-      → map exit_state parts.exits.items ≡ (begun_in board).exits → MayBeGathered parts
-  may_gather board parts is tasks entries exits there untouched received = record {
+      → none_asked (begun_in board) ≡ true → map exit_state parts.exits.items ≡ (begun_in board).exits → MayBeGathered parts
+  may_gather board parts is tasks entries exits there untouched unasked received = record {
     tasks = subst (λ (its : Board W). AllTasksOf its parts.tasks.items) (sym is) tasks;
     entries = subst (λ (its : Board W). AllEntriesOf its parts.entries.items) (sym is) entries;
     exits = subst (λ (its : Board W). AllExitsOf its parts.exits.items) (sym is) exits;
     there = subst (λ (its : Board W). AllThere its parts.tasks.items parts.entries.items parts.exits.items) (sym is) there;
     untouched = subst (λ (its : Board W). AllUntouched its parts.entries.items) (sym is) untouched;
+    unasked = subst (λ (its : Board W). none_asked (begun_in its) ≡ true) (sym is) unasked;
     exit_count =
         ap (λ (its : Board W). length (begun_in its).exits) is ∙ sym (ap (λ (states : List ExitState). length states) received)
         ∙ length-map parts.exits.items exit_state;
@@ -107,7 +110,7 @@ module _ {W : Type 0} {w : _} {e : _} (meaning : W → Value → Result (List Va
     inputs_stay = stay;
     journals = λ b low.
         happened_grows (layout_in old) (works_of meaning (layout_in old)) b goes.count (parts_of old) (parts_of new) goes.happened;
-    callers = happened_callers (layout_in old) (works_of meaning (layout_in old)) goes.count (parts_of old) (parts_of new) goes.happened;
+    callers = callers_on (layout_in old) (works_of meaning (layout_in old)) goes.count (parts_of old) (parts_of new) goes.happened;
   }
 
   -- or one, or none

@@ -1,11 +1,12 @@
 -- What a network is after a crew has run it, and what there is of it where the crew could not go on.
-use Rattle.std.specs.Prelude.{◌≡◌, All, List, Result, length}
+use Rattle.std.specs.Prelude.{◌≡◌, true, All, List, Result, length}
 use Rattle.flow_value.specs.declared.value.Value.{Value}
 use Rattle.flow_value.specs.declared.work.WorkFault.{WorkFault}
 use Rattle.flow_lawful.specs.Lawful.{Lawful}
 use Rattle.flow_core.specs.Inputs.{InputsStay}
 use Rattle.flow_core.specs.State.{callers_in, exit_at}
 use Rattle.flow_exit.specs.Exit.{caller_of}
+use Rattle.flow_net.specs.Asked.{none_asked}
 use Rattle.flow_net.specs.Net.{NetNeedsId, layout_in, parts_of, run_of}
 use Rattle.flow_net.specs.declared.net.Net.{Net}
 use Rattle.flow_board.specs.Begun.{JournalsExtend, begun_in}
@@ -50,6 +51,7 @@ module _ {W : Type 0} {w : _} {e : _} where
     pub exits : AllExitsOf parts.board parts.exits.items
     pub there : AllThere parts.board parts.tasks.items parts.entries.items parts.exits.items
     pub untouched : AllUntouched parts.board parts.entries.items
+    pub unasked : none_asked (begun_in parts.board) ≡ true
     pub exit_count : length (begun_in parts.board).exits ≡ length parts.exits.items
     pub uncalled : All (IsUncalled parts.board) parts.exits.items
 

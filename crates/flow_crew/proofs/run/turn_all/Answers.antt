@@ -4,6 +4,7 @@ use Rattle.flow_task.specs.Absent.{AllThere}
 use Rattle.flow_board.specs.Untouched.{AllUntouched}
 use Rattle.flow_task.specs.declared.board.Board.{Board}
 use Rattle.flow_net.specs.Net.{layout_in, parts_of}
+use Rattle.flow_net.proofs.NoneAsked.{unasked_then}
 use Rattle.flow_board.specs.Begun.{begun_in}
 use Rattle.flow_board.proofs.EventsGrow.{back_callers, home_callers}
 use Rattle.flow_crew.specs.Runs.{IsScatteredOf}
@@ -25,6 +26,8 @@ turn_and_gather-requires-clause-parts g c κs within =
     (subst (λ (tasks : Vec _ _). AllThere board tasks.items c.in-Ok.scattered.entries.items c.in-Ok.scattered.exits.items) (sym is.tasks)
     c.in-Ok.ensures.there)))
     (subst (λ (entries : Vec _ _). AllUntouched board entries.items) (sym is.entries) c.in-Ok.ensures.untouched)
+    (unasked_then (parts_of c.args.net) (begun_in board)
+    (home_callers (layout_in c.args.net) g.W.Runs.meaning (parts_of c.args.net) (begun_in board) c.in-Ok.ensures.goes_on) c.args.net.unasked)
     (ap (λ (exits : Vec _ _). map exit_state exits.items) is.exits ∙ c.in-Ok.ensures.received)
 
 pub returns-in-Ok-clause-runs_on : goal.returns-in-Ok-clause-runs_on

@@ -1,5 +1,6 @@
 use Rattle.std.proofs.Common.{All, length, ap, sym, refl, subst, ◌∙◌}
 use Rattle.std.proofs.lemmas.List.Sorted.{All-permutation, length_permutation}
+use Rattle.flow_net.specs.Asked.{none_asked}
 use Rattle.flow_net.specs.Net.{parts_of}
 use Rattle.flow_crew.proofs.Callers.{callers_kept, exits_many}
 use Rattle.flow_crew.proofs.Once.{never_missing}
@@ -17,7 +18,7 @@ returns-in-Some-clause-gathered g c =
       same_layout = gathered.same_layout;
       inputs_stay = gathered.inputs_stay c.requires.parts.untouched;
       journals = gathered.go_on;
-      callers = callers_kept c.args.parts.board g.W.Runs.meaning (parts_of c.in-Ok.net) c.args.parts.exits.items
+      callers = callers_kept c.args.parts.board g.W.Runs.meaning (parts_of c.in-Ok.net) c.requires.parts.unasked c.args.parts.exits.items
           c.requires.parts.there.exits_are c.requires.parts.exits gathered.exits
           c.requires.parts.uncalled c.requires.parts.exit_count
           (exits_many g.W.Runs.meaning c.args.parts.board c.in-Ok.net c.in-Ok.net.kept gathered.same_layout);
@@ -30,7 +31,7 @@ returns-in-None-clause-left g c =
         same_layout = gathered.same_layout;
         inputs_stay = gathered.inputs_stay c.requires.parts.untouched;
         journals = gathered.go_on;
-        callers = callers_kept c.args.parts.board g.W.Runs.meaning (parts_of c.in-Ok.net) c.args.parts.exits.items
+        callers = callers_kept c.args.parts.board g.W.Runs.meaning (parts_of c.in-Ok.net) c.requires.parts.unasked c.args.parts.exits.items
             c.requires.parts.there.exits_are c.requires.parts.exits gathered.exits
             c.requires.parts.uncalled c.requires.parts.exit_count
             (exits_many g.W.Runs.meaning c.args.parts.board c.in-Ok.net c.in-Ok.net.kept gathered.same_layout);
@@ -58,6 +59,7 @@ returns-in-Memory-clause-left g c =
         exits = refused.exits_back;
         there = subst (IsWhyNot parts) c.in-Memory.is refused.why;
         untouched = still_untouched old.board old.entries.items parts refused.back.entries refused.back.board c.requires.parts.untouched;
+        unasked = ap (λ (its : Board _). none_asked (begun_in its)) refused.back.board ∙ c.requires.parts.unasked;
         exit_count = ap (λ (its : Board _). length (begun_in its).exits) refused.back.board ∙ c.requires.parts.exit_count
             ∙ sym (length_permutation old.exits.items parts.exits.items refused.back.exits);
         uncalled = subst (λ (its : Board _). All (IsUncalled its) parts.exits.items) (sym refused.back.board)
