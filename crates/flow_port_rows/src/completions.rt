@@ -4,7 +4,7 @@ ghost use Rattle.flow_link.specs.Plan.{is_reserving};
 ghost use Rattle.flow_link.specs.declared.stage.TargetStage.TheVariants.{Free};
 ghost use Rattle.flow_block.specs.Traits.{target_over};
 
-use crate::networks::bounded;
+use flow_drawn::inputs;
 use flow_kinds::Buffer;
 use flow_link::{BlockDef, BlockKind, DataflowBlock, Outcome, Plan};
 use flow_poll::Completion;
@@ -52,7 +52,9 @@ fn completed(rt: &impl Abort, buffer: Buffer) -> Buffer
 #[test]
 fn a_buffer_that_is_done_is_told(rt: HostRuntime) {
     let alloc = rt.alloc();
-    let inputs = bounded(&rt, alloc, "b?");
+    let Some(inputs) = inputs(alloc, "b* buffer capacity 1 output true", "b?") else {
+        panic!(rt; "no plan");
+    };
     let Ok(task) = MockTask::new(&rt) else {
         panic!(&rt; "out of memory");
     };

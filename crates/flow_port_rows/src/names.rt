@@ -1,91 +1,59 @@
 //! What is posted to a name is at the input of that name, and what is asked of a name is told of that block.
-use crate::networks::{drawn, settles, started};
-use flow_front::{EndRefused, Inputs, PostRefused, record_of, state_of};
-use flow_link::Ending;
-use flow_net::{Net, State};
-use flow_value::{Steps, Value};
-use std::alloc::Global;
-use std::process::Abort;
 
-/// An action, two inputs of it, and between these a buffer that is none.
-const INPUTS: &str =
-    "out action(id), left* buffer, middle buffer, right* buffer, left -> out, right -> out";
+use crate::check::check;
 
-/// The inputs with 1 and 3 posted to the right one, and 2 to the left one between these.
-fn filled(rt: &impl Abort, alloc: Global) -> Inputs<Steps> {
-    drawn(rt, alloc, INPUTS, "right=1 left=2 right=3")
-}
+const NAMES: &str = r#"
+case values stand at the input of their name
+net out action(id), left* buffer, middle buffer, right* buffer, left -> out, right -> out with right=1 left=2 right=3
+start
+posted left : [Int(2)]
+posted middle : []
+posted right : [Int(1), Int(3)]
 
-/// The network of these inputs, where nothing can move any more.
-pub(crate) fn settled(rt: &impl Abort, alloc: Global, inputs: Inputs<Steps>) -> Net<Steps> {
-    let mut net = started(rt, alloc, inputs);
-    settles(rt, alloc, &mut net);
-    net
-}
+case a name of no input is refused
+net out action(id), left* buffer, middle buffer, right* buffer, left -> out, right -> out with right=1 left=2 right=3
+post out 7 : Err(NoInput(Int(7)))
+end out open : Err(NoInput)
+post middle 7 : Err(NoInput(Int(7)))
+end middle open : Err(NoInput)
+post nobody 7 : Err(NoInput(Int(7)))
+end nobody open : Err(NoInput)
+post lef 7 : Err(NoInput(Int(7)))
+end lef open : Err(NoInput)
+post  7 : Err(NoInput(Int(7)))
+end  open : Err(NoInput)
 
-/// Asserts that these numbers were posted to the block with this name.
-fn has_posted(rt: &impl Abort, net: &Net<Steps>, name: &str, numbers: &[i64]) {
-    let Some(block) = net.plan().find(name) else {
-        panic!(rt; "no block {name}");
-    };
-    are_numbers(rt, net.posted(block), numbers);
-}
+# The record has the three numbers, in whatever order the two inputs give theirs.
+case blocks tell by their names
+net out action(id), left* buffer, middle buffer, right* buffer, left -> out, right -> out with right=1 left=2 right=3
+end left open
+start
+settle : Ok(Quiet)
+state left : Some(Open)
+state right : Some(Done)
+state nobody : None
+record out : Some([Int(2), Int(1), Int(3)]) | Some([Int(1), Int(2), Int(3)]) | Some([Int(1), Int(3), Int(2)])
+record nobody : None
 
-/// Asserts that these are the numbers.
-pub(crate) fn are_numbers(rt: &impl Abort, values: &[Value], numbers: &[i64]) {
-    assert_eq!(rt; values.len(), numbers.len());
-    for (value, number) in values.iter().zip(numbers) {
-        assert_eq!(rt; value.as_int(), Some(*number));
-    }
-}
+case an input ends as it is told
+net out action(id), left* buffer, middle buffer, right* buffer, left -> out, right -> out
+end right fault 9
+end left fault 0 : Err(FaultZero)
+start
+settle : Ok(Quiet)
+state left : Some(Done)
+state right : Some(Faulted(9))
 
-#[test]
-fn values_stand_at_the_input_of_their_name(rt: HostRuntime) {
-    let alloc = rt.alloc();
-    let net = started(&rt, alloc, filled(&rt, alloc));
-    has_posted(&rt, &net, "left", &[2]);
-    has_posted(&rt, &net, "middle", &[]);
-    has_posted(&rt, &net, "right", &[1, 3]);
-}
-
-#[test]
-fn a_name_of_no_input_is_refused(rt: HostRuntime) {
-    let mut inputs = filled(&rt, rt.alloc());
-    for name in ["out", "middle", "nobody", "lef", ""] {
-        let refused = inputs.post(name, Value::Int(7));
-        assert!(rt; matches!(refused, Err(PostRefused::NoInput(Value::Int(7)))));
-        assert!(rt; matches!(inputs.end(name, Ending::Open), Err(EndRefused::NoInput)));
-    }
-}
+# Messages go on in runs, and what was made of some of them before a fault goes on first.
+case what was made before a fault goes on
+net in* buffer, double transform(mul 2), out action(id), in -> double, double -> out with in=1 in=2 in,three in=4
+start
+settle : Ok(Quiet)
+state double : Some(Faulted(1))
+record out : Some([Int(2), Int(4)])
+"#;
 
 #[test]
-fn blocks_tell_by_their_names(rt: HostRuntime) {
-    let alloc = rt.alloc();
-    let mut inputs = filled(&rt, alloc);
-    assert!(rt; inputs.end("left", Ending::Open).is_ok());
-    let net = settled(&rt, alloc, inputs);
-    assert!(rt; matches!(state_of(&net, "left"), Some(State::Open)));
-    assert!(rt; matches!(state_of(&net, "right"), Some(State::Done)));
-    assert!(rt; state_of(&net, "nobody").is_none());
-    let Some(recorded) = record_of(&net, "out") else {
-        panic!(rt; "no block");
-    };
-    assert_eq!(rt; recorded.len(), 3);
-    assert!(rt; record_of(&net, "nobody").is_none());
-}
-
-#[test]
-fn an_input_ends_as_it_is_told(rt: HostRuntime) {
-    let alloc = rt.alloc();
-    let mut inputs = drawn(&rt, alloc, INPUTS, "none");
-    assert!(rt; inputs.end("right", Ending::Fault(9)).is_ok());
-    assert!(rt;
-        matches!(
-            inputs.end("left", Ending::Fault(0)),
-            Err(EndRefused::FaultZero)
-        )
-    );
-    let net = settled(&rt, alloc, inputs);
-    assert!(rt; matches!(state_of(&net, "left"), Some(State::Done)));
-    assert!(rt; matches!(state_of(&net, "right"), Some(State::Faulted(9))));
+fn names_are_those_of_blocks(rt: HostRuntime) {
+    check(&rt, "names", 5, NAMES);
 }
