@@ -7,8 +7,7 @@ import threading
 from accept.examples import COMMAND, compare_report, text_of, wanted_of
 from accept.shell import run
 
-# How long a build may take. Where a program can't be compiled without proof, the first call begins to prove it, which takes
-# longer.
+# How long a build may take.
 SECONDS = 1800
 
 

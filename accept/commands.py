@@ -191,6 +191,19 @@ WITHOUT_KIT = [
     Case("bin/flow check examples/import.toml", 127, "", "flow: rt is not found"),
 ]
 
+# A kit that fails, and would leave a file if it was to prove.
+FAILING_RT = "mkdir kit; printf '#!/bin/sh\\n[ \"$1\" = doc ] || touch kit/proves\\necho no room >&2\\nexit 1\\n' > kit/rt; chmod +x kit/rt"
+
+# Where a first call can't compile, it says why and ends.
+WITH_FAILING_KIT = [
+    Case(
+        "PATH=$PWD/kit:$PATH; { bin/flow_run examples/import.toml 1 < examples/import.csv; echo $?; ls kit; } 2>&1",
+        0,
+        "no room\nflow_run: it could not be compiled without proof; `bin/flow_run --prove` proves and builds it instead\n127\nrt\n",
+    ),
+    Case("PATH=$PWD/kit:$PATH; { bin/flow --build; echo $?; } 2>&1", 0, "no room\nflow: it could not be compiled without proof\n127\n"),
+]
+
 
 def begins(text, wanted):
     """How a text begins, as far as the wanted lines go."""
@@ -234,6 +247,8 @@ def call_unbuilt(part, copy, room):
     bare = os.path.join(room, "bare")
     shutil.copytree(copy, bare, ignore=shutil.ignore_patterns("src", "specs", "proofs"))
     run_cases(part, UNBUILT, bare)
+    run(FAILING_RT, bare)
+    run_cases(part, WITH_FAILING_KIT, bare)
     run_cases(part, WITHOUT_KIT, bare, path_without("rt", os.path.join(room, "path")))
 
 
