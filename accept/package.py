@@ -1,0 +1,185 @@
+"""The package of bin/package: made twice, installed in a root that has the libraries of the programs and nothing else, and removed."""
+
+import filecmp
+import os
+import re
+import shlex
+import shutil
+import subprocess
+import tarfile
+
+from accept.examples import ALONE, PAGE, command_of, compare_report, names_of, shown_commands, text_of, wanted_of
+from accept.pages import Tree, broken_links
+from accept.shell import run
+from accept.tally import first_difference
+
+VERSION = "0.0.1"
+ARCHIVE = f"bevelrose-{VERSION}-x86_64-linux.tar.gz"
+DEBIAN = f"bevelrose_{VERSION}_amd64.deb"
+DOCS = "usr/share/doc/bevelrose"
+
+# The same call where names are sorted otherwise, new files are for nobody else, and the clock shows another hour.
+ELSEWHERE = f"umask 077; TZ=Asia/Tokyo LC_ALL=C.UTF-8 LANG=C.UTF-8 bin/package {VERSION}"
+
+
+def what_lacks():
+    """What this machine lacks to try a package, or None."""
+    for program in ("dpkg", "dpkg-deb", "chroot", "ldd"):
+        if shutil.which(program) is None:
+            return f"there is no {program}"
+    return None if os.geteuid() == 0 else "only root may call chroot"
+
+
+def libraries(program):
+    """The files that `ldd` names of a program."""
+    listed = subprocess.run(["ldd", program], stdin=subprocess.DEVNULL, stdout=subprocess.PIPE, stderr=subprocess.DEVNULL)
+    return re.findall(r"(/\S+) \(0x", os.fsdecode(listed.stdout))
+
+
+def put_libraries(root, copy):
+    """Puts into a root what the programs need, and answers the paths there."""
+    found = set()
+    for tool in ("flow_run", "flow"):
+        for program in (f"out/{tool}", f"out/{tool}.unproved"):
+            if os.path.exists(os.path.join(copy, program)):
+                found.update(libraries(os.path.join(copy, program)))
+    for path in found:
+        target = root + path
+        os.makedirs(os.path.dirname(target), exist_ok=True)
+        shutil.copy(os.path.realpath(path), target)
+    return {os.path.normpath(path) for path in found}
+
+
+def files_below(root):
+    """All that stands in a root but folders, and what dpkg keeps for itself."""
+    found = set()
+    for folder, _, names in os.walk(root):
+        found.update("/" + os.path.relpath(os.path.join(folder, name), root) for name in names)
+    return {path for path in found if not path.startswith("/var/lib/dpkg/")}
+
+
+def in_root(root):
+    """The beginning of a call in a root, without an environment."""
+    return f"env -i {shutil.which('chroot')} {shlex.quote(root)} "
+
+
+def make(part, copy, room):
+    """Makes the packages twice, and answers whether they are there."""
+    first = run(f"bin/package {VERSION}", copy)
+    part.compare(f"bin/package {VERSION}", ("status", 0, first.status), ("standard error", "", first.err))
+    other = os.path.join(room, "another place", "for it")
+    shutil.copytree(copy, other, symlinks=True)
+    again = run(ELSEWHERE, other)
+    part.compare(f"{ELSEWHERE}, elsewhere", ("output", first.out, again.out))
+    made = [os.path.join("out", name) for name in (ARCHIVE, DEBIAN)]
+    are_there = all(os.path.exists(os.path.join(place, name)) for name in made for place in (copy, other))
+    for name in made if are_there else []:
+        same = filecmp.cmp(os.path.join(copy, name), os.path.join(other, name), shallow=False)
+        part.count(same, f"{name} elsewhere", ["it has other bytes"])
+    shutil.rmtree(os.path.dirname(other))
+    return are_there
+
+
+def call_dpkg(root, words):
+    """A call of dpkg that knows of this root alone."""
+    os.makedirs(f"{root}/var/lib/dpkg/info", exist_ok=True)
+    os.makedirs(f"{root}/var/lib/dpkg/updates", exist_ok=True)
+    with open(f"{root}/var/lib/dpkg/status", "a", encoding="ascii"):
+        pass
+    log = shlex.quote(f"{root}/var/lib/dpkg/log")
+    return f"dpkg --root={shlex.quote(root)} --log={log} --force-depends {words}"
+
+
+def install(part, copy, room):
+    """Installs the Debian package in a root, runs each example there, and removes it."""
+    root = os.path.join(room, "installed")
+    os.makedirs(root)
+    needed = put_libraries(root, copy)
+    ended = run(call_dpkg(root, f"--install out/{DEBIAN}"), copy)
+    part.compare("dpkg --install", ("status", 0, ended.status))
+    for name in names_of(copy):
+        run_example(part, copy, root, name)
+    manuals(part, root)
+    complete(part, root)
+    ended = run(call_dpkg(root, "--remove bevelrose"), copy)
+    part.compare("dpkg --remove", ("status", 0, ended.status), ("files left", set(), files_below(root) - needed))
+
+
+def run_example(part, copy, root, name):
+    """Runs an example in a root where the package is installed, and checks its texts there."""
+    network, records = (f"/{DOCS}/examples/{name}.{kind}" for kind in ("toml", "csv"))
+    command = f"/usr/bin/flow_run {network} {ALONE} < {shlex.quote(root)}{records}"
+    compare_report(part, command, wanted_of(copy, name), run(in_root(root) + command, copy))
+    command = f"/usr/bin/flow check {network} {records}"
+    ended = run(in_root(root) + command, copy)
+    accepted = re.findall(r"^(/.*): accepted\b", ended.out, re.M)
+    part.compare(command, ("status", 0, ended.status), ("accepted", [network, records], accepted))
+
+
+def unpack(part, copy, room):
+    """Unpacks the archive, and makes each call of the page of examples in its folder, which is the root."""
+    with tarfile.open(os.path.join(copy, "out", ARCHIVE)) as archive:
+        archive.extractall(room)
+    root = os.path.join(room, ARCHIVE[: -len(".tar.gz")])
+    links(part, root)
+    put_libraries(root, copy)
+    begin = in_root(".")
+    for name in names_of(copy):
+        command = command_of(name, ALONE)
+        compare_report(part, f"{command}, unpacked", wanted_of(root, name), run(begin + command, root))
+    for command, wanted in shown_commands(text_of(root, PAGE)):
+        ended = run(re.sub(r"\bbin/flow", f"{begin}bin/flow", command), root)
+        if wanted is not None:
+            pairs = [] if ended.out == wanted else [("output", *first_difference(wanted, ended.out))]
+            part.compare(f"{command}, unpacked", *pairs)
+
+
+def links(part, root):
+    """The pages of the package lead nowhere else."""
+    tree = Tree.__new__(Tree)
+    tree.top = root
+    for folder, _, names in os.walk(root):
+        for page in (os.path.relpath(os.path.join(folder, name), root) for name in names if name.endswith(".md")):
+            faults = list(broken_links(tree, page, tree.text(page)))
+            part.count(not faults, f"{page}, packed", faults)
+
+
+def manuals(part, root):
+    """The man pages are read without a warning."""
+    for page in ("flow_run.1.gz", "flow.1.gz"):
+        path = f"{root}/usr/share/man/man1/{page}"
+        if shutil.which("man") is None or shutil.which("groff") is None:
+            part.skip(page, "there is no man, or no groff")
+            continue
+        ended = run(f"zcat {shlex.quote(path)} | LC_ALL=C.UTF-8 groff -man -ww -b -Tutf8 | head -n 3", root)
+        name = page.split(".")[0]
+        part.compare(page, ("warnings", "", ended.err), ("its first line", True, name.upper() in ended.out.split("\n")[0]))
+
+
+# What bash and zsh are asked: the words of a line, and what the last is completed to.
+COMPLETED = [("flow", "flow dr", "draw"), ("flow", "flow draw --d", "--dot"), ("flow_run", "flow_run net 6", "64")]
+
+
+def complete(part, root):
+    """Both shells read the completions, and bash completes by them."""
+    for tool, line, wanted in COMPLETED:
+        file = shlex.quote(f"{root}/usr/share/bash-completion/completions/{tool}")
+        words = line.split()
+        script = f'. {file}; COMP_WORDS=({line}); COMP_CWORD={len(words) - 1}; _{tool} {tool} {words[-1]} x; echo "${{COMPREPLY[*]}}"'
+        if shutil.which("bash"):
+            ended = run(["bash", "-c", script], root)
+            part.compare(f"bash: {line}", ("completed to", wanted, ended.out.strip()), ("standard error", "", ended.err))
+        else:
+            part.skip(f"bash: {line}", "there is no bash")
+    for tool in ("flow", "flow_run"):
+        file = f"{root}/usr/share/zsh/vendor-completions/_{tool}"
+        if shutil.which("zsh"):
+            part.compare(f"zsh -n _{tool}", ("standard error", "", run(["zsh", "-n", file], root).err))
+        else:
+            part.skip(f"zsh -n _{tool}", "there is no zsh")
+
+
+def try_package(part, copy, room):
+    if make(part, copy, room):
+        install(part, copy, room)
+        unpack(part, copy, room)
