@@ -1,0 +1,4 @@
+mod AsBox
+mod Runs
+mod Told
+mod Walked

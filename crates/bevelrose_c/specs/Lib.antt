@@ -1,0 +1,4 @@
+pub mod Answers
+pub mod Owned
+pub mod Ran
+pub mod Refusal
