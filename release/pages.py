@@ -8,11 +8,12 @@ LINK = re.compile(r"\[([^\]\n]+)\]\(([^)\s]+)\)")
 
 
 def names(top):
-    """The files of a package that stand in the repository as they are, but for links."""
+    """The files of a package that stand in the repository as they are, but for links. The folders of examples in other languages call a
+    library that the package does not have."""
     found = ["README.md"]
     for folder in FOLDERS:
         found += [f"{folder}/{name}" for name in sorted(os.listdir(os.path.join(top, folder)))]
-    return found
+    return [name for name in found if os.path.isfile(os.path.join(top, name))]
 
 
 def without_dead_links(page, text, known):
