@@ -18,6 +18,7 @@ ghost use Rattle.flow_board.specs.GatherRoom.{IsRoomToGather};
 ghost use Rattle.flow_board.specs.Gathers.{AreBack, EntryIsKept, ExitIsKept, GathersFrom, IsWhyNot, gather_fault_number};
 ghost use Rattle.flow_task.specs.Inputs.{input_due, links_of_inputs};
 ghost use Rattle.flow_task.specs.Known.{in_known, ins_due, out_known, outs_due};
+ghost use Rattle.flow_task.specs.Lefts.{TicketsAreOut};
 ghost use Rattle.flow_task.specs.Orders.{AreInOrder, HasLookedAround};
 ghost use Rattle.flow_task.specs.Parts.{AllEntriesOf, AllExitsOf, AllTasksOf, board_layout, board_wires, marks_in};
 ghost use Rattle.flow_task.specs.Untouched.{AllUntouched};
@@ -50,8 +51,9 @@ impl GatherFault {
     }
 }
 
-/// Puts the parts of a scattered network together, wherever their turns stopped. They may come in any order. Where one is missing or
-/// memory is out, all come back, in the order of their numbers, and may be gathered again.
+/// Puts the parts of a scattered network together, wherever their turns stopped. They may come in any order. A job that stands in a lane is
+/// let go, with what came of it: its ticket is out in the network, and the block does that job again. Where a part is missing or memory is
+/// out, all come back, in the order of their numbers, and may be gathered again.
 pub fn gather<W: Runs>(
     alloc: Global,
     mut parts: Parts<W>,
@@ -67,6 +69,7 @@ pub fn gather<W: Runs>(
     ensures inputs_stay { IfOk result (λ net. AllUntouched parts.board parts.entries.items → InputsStay (begun_in parts.board) (parts_of net)) }
     ensures entries { IfOk result (λ net. All (λ entry. EntryIsKept W.meaning parts.board (parts_of net) entry) parts.entries.items) }
     ensures exits { IfOk result (λ net. All (λ exit. ExitIsKept W.meaning parts.board (parts_of net) exit) parts.exits.items) }
+    ensures out { IfOk result (λ net. All (λ task. TicketsAreOut (parts_of net).nodes task) parts.tasks.items) }
     ensures why { IfErr result (λ refused. IsWhyNot refused.0 refused.1) }
     ensures back { IfErr result (λ refused. AreBack parts refused.0) }
     ensures tasks_back { IfErr result (λ refused. AllTasksOf refused.0.board refused.0.tasks.items) }
@@ -132,6 +135,7 @@ impl Apart {
         ensures inputs_stay { AllUntouched parts.board parts.entries.items → InputsStay (begun_in parts.board) (parts_of result) }
         ensures entries { All (λ entry. EntryIsKept W.meaning parts.board (parts_of result) entry) parts.entries.items }
         ensures exits { All (λ exit. ExitIsKept W.meaning parts.board (parts_of result) exit) parts.exits.items }
+        ensures out { All (λ task. TicketsAreOut (parts_of result).nodes task) parts.tasks.items }
     {
         let Apart {
             mut blocks,

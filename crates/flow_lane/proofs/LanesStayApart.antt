@@ -27,6 +27,20 @@ at_most_one n m true false counts few from = omega arith
 at_most_one n m false false counts few from = omega arith
 at_most_one n m false true counts few from = ⊎_elim (λ (e : false ≡ true). absurd (cc)) (λ (e : m ≡ 0). omega arith) (from refl)
 
+none_step : (b rest : Bool) (n : ℕ) → cond b 1 0 + n ≡ 0 → (n ≡ 0 → rest ≡ false) → (b || rest) ≡ false
+none_step true rest n none then = absurd (omega (arith, none))
+none_step false rest n none then = then (omega (arith, none))
+
+counts_none : {X : Type 0} (p : X → Bool) (xs : List X) → count_by p xs ≡ 0 → list_any p xs ≡ false
+counts_none p [] none = refl
+counts_none p (x ∷ xs) none =
+    none_step (p x) (list_any p xs) (count_by p xs) (sym (sum_by-cons (λ y. cond (p y) 1 0) x xs) ∙ none) (counts_none p xs)
+
+none_left : (n m : ℕ) (was is : Bool) → n + cond was 1 0 ≡ m + cond is 1 0 → m ≤ 1 → was ≡ true → is ≡ false → n ≡ 0
+none_left n m true false counts few stood gone = omega (arith, counts, few)
+none_left n m true true counts few stood gone = absurd (cc)
+none_left n m false is counts few stood gone = absurd (cc)
+
 module _ {W : Type 0} where
   -- one side changed: each ticket for which it stands now stood there before, or nowhere
   pub stays_apart : (sides : List (BlockOf (JobState W))) (place : ℕ) (side : BlockOf (JobState W)) → place < length sides → AreApart sides
@@ -57,6 +71,16 @@ module _ {W : Type 0} where
       stays_apart sides place side there apart (λ ticket stands.
       let same : own ≡ ticket = eqb-true own ticket (ap (is_ticket ticket) (sym is) ∙ stands) in
       inr (subst (λ (n : ℕ). count_by (has_ticket n) sides ≡ 0) same (none_counts (has_ticket own) sides none)))
+
+  -- it stands no more for a ticket for which it stood: then none does
+  pub one_gone : (sides : List (BlockOf (JobState W))) (place ticket : ℕ) (side : BlockOf (JobState W)) → place < length sides → AreApart sides
+      → has_ticket ticket (side_in sides place) ≡ true → has_ticket ticket side ≡ false → list_any (has_ticket ticket) (set sides place side) ≡ false
+  one_gone sides place ticket side there apart stood gone =
+      counts_none (has_ticket ticket) (set sides place side)
+      (none_left (count_by (has_ticket ticket) (set sides place side)) (count_by (has_ticket ticket) sides)
+      (has_ticket ticket (side_in sides place)) (has_ticket ticket side)
+      (sum_by-set (λ (s : BlockOf (JobState W)). cond (has_ticket ticket s) 1 0) sides place side no_side there)
+      (apart ticket) stood gone)
 
   -- where all are free, no ticket stands anywhere
   none_free : (ticket : ℕ) (sides : List (BlockOf (JobState W))) → All (λ (s : BlockOf (JobState W)). s.side.stage ≡ BlockStage.free) sides → count_by (has_ticket ticket) sides ≡ 0

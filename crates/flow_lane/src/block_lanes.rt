@@ -9,7 +9,7 @@ ghost use Rattle.std.specs.List.{list_all, list_any};
 ghost use Rattle.std.specs.Option.{ForSome};
 ghost use Rattle.flow_exec.specs.Jobs.{ticket_in};
 ghost use Rattle.flow_lane.specs.BlockLanes.{AreApart, HasLooked, HaveLooked, MayPut};
-ghost use Rattle.flow_lane.specs.BlockLanes.{has_ended, has_result, has_room, has_ticket, side_at, stage_at, tables_of, with_side};
+ghost use Rattle.flow_lane.specs.BlockLanes.{has_ended, has_result, has_room, has_ticket, side_at, stage_at, tables_of, ticket_at, with_side};
 ghost use Rattle.flow_lane.specs.Items.{state_of, state_in};
 ghost use Rattle.flow_lane.specs.Sides.{clearing, ending, fetching, putting};
 ghost use Rattle.flow_lane.specs.Views.{BlockStage, is_ready, has_in_hand};
@@ -210,12 +210,13 @@ impl<W: Runs> BlockLanes<W> {
         self.sides[place].fetch(&lanes[place])
     }
 
-    /// Frees the lane at this place, once its result is taken back.
+    /// Frees the lane at this place, once its result is taken back. No lane has its ticket then.
     pub fn clear(&mut self, lanes: &[Lane<W>], place: usize)
         requires table { tables_of self.old.sides ≡ lanes.now }
         requires in_hand { has_in_hand (stage_at place self.old) ≡ true }
         requires none_kept { self.old.kept ≡ None }
         ensures side { self.new ≡ with_side place clearing self.old }
+        ensures gone { ForSome (ticket_at (stage_at place self.old)) (λ ticket. list_any (has_ticket ticket) self.new.sides ≡ false) }
         ensures tables { tables_of self.new.sides ≡ lanes.now }
     {
         self.sides[place].clear(&lanes[place]);

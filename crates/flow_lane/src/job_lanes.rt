@@ -1,5 +1,5 @@
 //! The lanes of a block with their tables, which the block shares with the threads that do its jobs.
-ghost use Rattle.std.specs.Prelude.{◌≡◌, ◌+◌, ◌<◌, true, count_by, is_some, length, map, option_map, position, set, IfErr, IfOk, IfSome, OnErr, OnOk, Some, None};
+ghost use Rattle.std.specs.Prelude.{◌≡◌, ◌+◌, ◌<◌, true, false, count_by, is_some, length, map, option_map, position, set, IfErr, IfOk, IfSome, OnErr, OnOk, Some, None};
 ghost use Rattle.std.specs.Arc.{arc_value};
 ghost use Rattle.std.specs.List.{list_all, list_any};
 ghost use Rattle.std.specs.Option.{ForSome};
@@ -7,7 +7,7 @@ ghost use Rattle.flow_block.specs.Peeks.{may_begin};
 ghost use Rattle.flow_exec.specs.Execution.{next_message, next_ticket};
 ghost use Rattle.flow_exec.specs.Jobs.{kind_in, message_in, ticket_in};
 ghost use Rattle.flow_lane.specs.BlockLanes.{AreFree, TakesFirst, ended_where_free, job_at, jobs_of, side_at, stage_at, tables_of, with_free_ended, with_side};
-ghost use Rattle.flow_lane.specs.BlockLanes.{has_ended, has_room, has_ticket};
+ghost use Rattle.flow_lane.specs.BlockLanes.{has_ended, has_room, has_ticket, ticket_at};
 ghost use Rattle.flow_lane.specs.Items.{state_in, state_of};
 ghost use Rattle.flow_lane.specs.Sides.{clearing, putting};
 ghost use Rattle.flow_lane.specs.Views.{BlockStage, has_in_hand};
@@ -184,11 +184,12 @@ impl<W: Runs> JobLanes<W> {
         }
     }
 
-    /// Frees the lane at this place, once its result is taken back.
+    /// Frees the lane at this place, once its result is taken back. No lane has its ticket then.
     pub fn clear(&mut self, place: usize)
         requires in_hand { has_in_hand (stage_at place self.old) ≡ true }
         requires none_kept { self.old.kept ≡ None }
-        ensures { self.new ≡ with_side place clearing self.old }
+        ensures side { self.new ≡ with_side place clearing self.old }
+        ensures gone { ForSome (ticket_at (stage_at place self.old)) (λ ticket. list_any (has_ticket ticket) self.new.sides ≡ false) }
     {
         self.sides.clear(&self.tables, place);
     }

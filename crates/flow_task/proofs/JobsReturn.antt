@@ -28,8 +28,9 @@ use Rattle.flow_task.specs.Laned.{IsOwnJob, TakesBack}
 
 -- what was taken back was an event, and what was not left the node as it was
 pub takes_does : {E : Type 0} (makes : Value → Result (List Value) ℕ) (ticket : ℕ) (result : Result Bool E) (did : Bool) (old new : NodeState)
-    → result ≡ Ok did → TakesBack makes ticket result old new → Does makes (Ok did) old new
-takes_does makes ticket (Ok true) true old new is taken = merely (BlockEvent.end_job ticket, taken)
+    → result ≡ Ok did → TakesBack makes ticket result old new → Does true makes (Ok did) old new
+takes_does makes ticket (Ok true) true old new is taken =
+    merely (BlockEvent.end_job ticket, record { comes = (refl, taken.comes); leaves = taken.leaves })
 takes_does makes ticket (Ok true) false old new is taken = absurd (cc)
 takes_does makes ticket (Ok false) true old new is taken = absurd (cc)
 takes_does makes ticket (Ok false) false old new is taken = taken
@@ -42,7 +43,7 @@ not_taken makes ticket (Err fault) refused old new is taken = taken
 
 -- where nothing was done, or memory was wanting, the node is as it was
 pub idle_does : (makes : Value → Result (List Value) ℕ) (result : Result Bool AllocError) (old new : NodeState)
-    → IfOk result (λ did. did ≡ false) → new ≡ old → Does makes result old new
+    → IfOk result (λ did. did ≡ false) → new ≡ old → Does true makes result old new
 idle_does makes (Ok true) old new not same = absurd (cc)
 idle_does makes (Ok false) old new not same = same
 idle_does makes (Err fault) old new not same = same

@@ -19,28 +19,29 @@ use Rattle.flow_task.specs.Cells.{is_told}
 use Rattle.flow_task.specs.Events.{AllLook, HasEvent, HasLooked, Spends, TurnsBy}
 use Rattle.flow_task.specs.Laned.{BeginIsDone, LanesRest, is_ended, state_with}
 use Rattle.flow_task.specs.Turns.{JobsAreDone, are_links_over, has_done, state_of}
-use Rattle.flow_task.proofs.Spends.{turns_more}
+use Rattle.flow_task.proofs.Spends.{turns_by, turns_more}
 
 -- What happens
 
 -- nothing was done but looks
-pub idle_turn : (makes makes' : Value → Result (List Value) ℕ) (budget events left : ℕ) (first mid last : NodeState) → events ≤ budget
-    → left ≡ budget → ∥ TurnsBy AllLook (HasEvent makes) events first mid ∥₁ → Spends makes' (budget - events) left mid last
+pub idle_turn : (ends : Bool) (makes makes' : Value → Result (List Value) ℕ) (budget events left : ℕ) (first mid last : NodeState) → events ≤ budget
+    → left ≡ budget → ∥ TurnsBy AllLook (HasEvent ends makes) events first mid ∥₁ → Spends true makes' (budget - events) left mid last
     → ∥ HasLooked AllLook first last ∥₁
-idle_turn makes makes' budget events left first mid last within is turned spent =
+idle_turn ends makes makes' budget events left first mid last within is turned spent =
     let less = spent.less in
     let none : events ≡ 0 = omega (arith, within, is, less) in
     subst (λ (node : NodeState). ∥ HasLooked AllLook first node ∥₁) (sym (spent.kept (omega (arith, none, is))))
-    (subst (λ (n : ℕ). ∥ TurnsBy AllLook (HasEvent makes) n first mid ∥₁) none turned)
+    (subst (λ (n : ℕ). ∥ TurnsBy AllLook (HasEvent ends makes) n first mid ∥₁) none turned)
 
 -- the block's events, and then those that its lanes let it do
 pub turned_then : (makes : Value → Result (List Value) ℕ) (budget events left total : ℕ) (first mid last : NodeState) → events ≤ budget
-    → total ≡ budget - left → ∥ TurnsBy AllLook (HasEvent makes) events first mid ∥₁ → Spends makes (budget - events) left mid last
-    → ∥ TurnsBy AllLook (HasEvent makes) total first last ∥₁
+    → total ≡ budget - left → ∥ TurnsBy AllLook (HasEvent false makes) events first mid ∥₁ → Spends true makes (budget - events) left mid last
+    → ∥ TurnsBy AllLook (HasEvent true makes) total first last ∥₁
 turned_then makes budget events left total first mid last within is turned spent =
     let less = spent.less in
     let all : total ≡ events + (budget - events - left) = omega (arith, within, is, less) in
-    ∥∥₁_elim spent.happens ∥∥₁_prop (λ later. turns_more makes events (budget - events - left) total first mid last all turned later)
+    ∥∥₁_elim spent.happens ∥∥₁_prop (λ later.
+    turns_more true makes events (budget - events - left) total first mid last all (turns_by true makes events first mid turned) later)
 
 -- What is left to do
 
@@ -106,7 +107,7 @@ lanes_done (Err fault) makes makes' first second third lanes new alike one two j
 -- where nothing was done in all, the lanes leave nothing to do
 pub rest_then : {W : Type 0} (makes makes' makes'' : Value → Result (List Value) ℕ) (budget events left total : ℕ) (mid last : NodeState)
     (done : Bool) (before : TurnState) (known : Option Outcome) (lanes new : LanesState W) → makes' ≡ makes → events ≤ budget
-    → total ≡ budget - left → Spends makes'' (budget - events) left mid last → before ≡ state_of done known mid
+    → total ≡ budget - left → Spends true makes'' (budget - events) left mid last → before ≡ state_of done known mid
     → (0 < budget - events → left ≡ budget - events → LanesRest makes' mid lanes) → (is_ended before ≡ false → new ≡ lanes)
     → 0 < budget → total ≡ 0 → LanesRest makes last new
 rest_then makes makes' makes'' budget events left total mid last done before known lanes new alike within is spent state rest same some none =

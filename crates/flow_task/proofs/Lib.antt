@@ -29,9 +29,12 @@ pub mod InputsMore
 pub mod InputsStayed
 pub mod InputsTaken
 pub mod JobsReturn
+pub mod JobsStayOut
 pub mod JournalsGrow
 pub mod LanedTurns
 pub mod LanesAreFew
+pub mod LanesStayOut
+pub mod LanesTaken
 pub mod LinkOnce
 pub mod LinksFound
 pub mod Makes

@@ -52,18 +52,18 @@ look_out_keeps kind k phase node new calls = look_keeps (is_one_taker kind) k ph
 
 -- An event
 
-event_grows : (makes : Value → Result (List Value) ℕ) (event : BlockEvent) (old new : NodeState) → BlockHappens makes event old new
+event_grows : (ends : Bool) (makes : Value → Result (List Value) ℕ) (event : BlockEvent) (old new : NodeState) → BlockHappens ends makes event old new
     → Extends old.journal new.journal
-event_grows makes BlockEvent.make old new is = grown (Some NodeCall.make) old new is.leaves
-event_grows makes BlockEvent.begin old new is = grown (Some NodeCall.begin) old new is.leaves
-event_grows makes (BlockEvent.end_job ticket) old new is =
+event_grows ends makes BlockEvent.make old new is = grown (Some NodeCall.make) old new is.leaves
+event_grows ends makes BlockEvent.begin old new is = grown (Some NodeCall.begin) old new is.leaves
+event_grows ends makes (BlockEvent.end_job ticket) old new is =
     subst (λ (node : NodeState). Extends old.journal node.journal) (sym is.leaves) (extends_itself old.journal)
-event_grows makes (BlockEvent.complete p) old new is = grown (Some (NodeCall.complete p)) old new is.leaves
-event_grows makes (BlockEvent.fault number) old new is = grown (Some (NodeCall.fault number)) old new is.leaves
-event_grows makes BlockEvent.finish old new is = grown (Some NodeCall.finish) old new is.leaves
-event_grows makes (BlockEvent.move_in p k next) old new is =
+event_grows ends makes (BlockEvent.complete p) old new is = grown (Some (NodeCall.complete p)) old new is.leaves
+event_grows ends makes (BlockEvent.fault number) old new is = grown (Some (NodeCall.fault number)) old new is.leaves
+event_grows ends makes BlockEvent.finish old new is = grown (Some NodeCall.finish) old new is.leaves
+event_grows ends makes (BlockEvent.move_in p k next) old new is =
     ∥∥₁_elim is.leaves (extends_prop old.journal new.journal) (λ some. grown (in_call p k some.0 next) old new some.1)
-event_grows makes (BlockEvent.move_out k next) old new is = grown (source_call old.block.kind k next) old new is.leaves
+event_grows ends makes (BlockEvent.move_out k next) old new is = grown (source_call old.block.kind k next) old new is.leaves
 
 -- A step, where the journal was as it is before
 
@@ -73,11 +73,11 @@ grows_from (Ok true) first old new same grows = subst (λ (journal : List Mark).
 grows_from (Ok false) first old new same grows = grows ∙ same
 grows_from (Err fault) first old new same grows = grows ∙ same
 
-pub does_grows : (makes : Value → Result (List Value) ℕ) (result : Result Bool AllocError) (old new : NodeState) → Does makes result old new
+pub does_grows : (ends : Bool) (makes : Value → Result (List Value) ℕ) (result : Result Bool AllocError) (old new : NodeState) → Does ends makes result old new
     → Grows result old new
-does_grows makes (Ok true) old new does = ∥∥₁_elim does (extends_prop old.journal new.journal) (λ some. event_grows makes some.0 old new some.1)
-does_grows makes (Ok false) old new does = ap marks_of does
-does_grows makes (Err fault) old new does = ap marks_of does
+does_grows ends makes (Ok true) old new does = ∥∥₁_elim does (extends_prop old.journal new.journal) (λ some. event_grows ends makes some.0 old new some.1)
+does_grows ends makes (Ok false) old new does = ap marks_of does
+does_grows ends makes (Err fault) old new does = ap marks_of does
 
 -- Step after step
 

@@ -2,29 +2,28 @@
 use Rattle.std.proofs.Common.{◌≡◌, ℕ, zero, suc, Bool, true, false, List, Result, Ok, Err, IfOk, OnOk, OnErr, refl, sym, subst}
 use Rattle.std.specs.declared.alloc.AllocError.{AllocError}
 use Rattle.std.proofs.Math.Logic.{∥∥₁_elim, ∥∥₁_map, ∥∥₁_prop}
-use Rattle.std.proofs.lemmas.Grind.{merely}
 use Rattle.flow_value.specs.declared.value.Value.{Value}
 use Rattle.flow_block.specs.Node.{NodeState}
-use Rattle.flow_task.specs.Events.{AllLook, Does, HasEvent, HasLooked, LooksBy, StepsBy, TurnsBy}
+use Rattle.flow_task.specs.Events.{Does, HasEvent, HasLooked, LooksBy, StepsBy, TurnsBy}
 
 -- a move, if it was not too late for it, nor memory out
-pub moved_does : (makes : Value → Result (List Value) ℕ) (Moved : Type 0) (result : Result Bool AllocError) (node new : NodeState)
-    → (Moved → ∥ HasEvent makes node new ∥₁) → IfOk result (λ moved. moved ≡ true → Moved)
-    → IfOk result (λ moved. moved ≡ false → new ≡ node) → OnErr result (new ≡ node) → Does makes result node new
+pub moved_does : {ends : Bool} (makes : Value → Result (List Value) ℕ) (Moved : Type 0) (result : Result Bool AllocError) (node new : NodeState)
+    → (Moved → ∥ HasEvent ends makes node new ∥₁) → IfOk result (λ moved. moved ≡ true → Moved)
+    → IfOk result (λ moved. moved ≡ false → new ≡ node) → OnErr result (new ≡ node) → Does ends makes result node new
 moved_does makes Moved (Ok true) node new event moved missed kept = event (moved refl)
 moved_does makes Moved (Ok false) node new event moved missed kept = missed refl
 moved_does makes Moved (Err fault) node new event moved missed kept = kept
 
 -- what a block does by itself, unless an id or memory is wanting
-pub undone_does : {A E : Type 0} (makes : Value → Result (List Value) ℕ) (done : Result A E) (result : Result Bool AllocError)
+pub undone_does : {A E : Type 0} (ends : Bool) (makes : Value → Result (List Value) ℕ) (done : Result A E) (result : Result Bool AllocError)
     (node new : NodeState) → OnOk done (result ≡ Ok true) → OnErr done (IfOk result (λ did. did ≡ false))
-    → OnOk done (∥ HasEvent makes node new ∥₁) → OnErr done (new ≡ node) → Does makes result node new
-undone_does makes (Ok value) (Ok true) node new is not event kept = event
-undone_does makes (Ok value) (Ok false) node new is not event kept = absurd (cc)
-undone_does makes (Ok value) (Err fault) node new is not event kept = absurd (cc)
-undone_does makes (Err lack) (Ok true) node new is not event kept = absurd (cc)
-undone_does makes (Err lack) (Ok false) node new is not event kept = kept
-undone_does makes (Err lack) (Err fault) node new is not event kept = kept
+    → OnOk done (∥ HasEvent ends makes node new ∥₁) → OnErr done (new ≡ node) → Does ends makes result node new
+undone_does ends makes (Ok value) (Ok true) node new is not event kept = event
+undone_does ends makes (Ok value) (Ok false) node new is not event kept = absurd (cc)
+undone_does ends makes (Ok value) (Err fault) node new is not event kept = absurd (cc)
+undone_does ends makes (Err lack) (Ok true) node new is not event kept = absurd (cc)
+undone_does ends makes (Err lack) (Ok false) node new is not event kept = kept
+undone_does ends makes (Err lack) (Err fault) node new is not event kept = kept
 
 module _ {S : Type 0} (Looks : S → S → Type 0) where
   pub stays : (old : S) → HasLooked Looks old old
@@ -71,10 +70,3 @@ module _ {S : Type 0} (Looks : S → S → Type 0) where
     -- an event at once
     pub event_steps : (old new : S) → ∥ Happens old new ∥₁ → StepsBy Looks Happens (Ok true) old new
     event_steps old new event = ∥∥₁_map event (λ e. (old, (stays old, e)))
-
--- by what a block did after its ends have looked
-pub steps_does : (makes : Value → Result (List Value) ℕ) (result : Result Bool AllocError) (first old new : NodeState)
-    → HasLooked AllLook first old → Does makes result old new → StepsBy AllLook (HasEvent makes) result first new
-steps_does makes (Ok true) first old new looked does = ∥∥₁_map does (λ event. (old, (looked, event)))
-steps_does makes (Ok false) first old new looked does = merely (subst (HasLooked AllLook first) (sym does) looked)
-steps_does makes (Err fault) first old new looked does = merely (subst (HasLooked AllLook first) (sym does) looked)

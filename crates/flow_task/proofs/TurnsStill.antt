@@ -15,20 +15,21 @@ use Rattle.flow_task.specs.Turns.{JobsAreDone, MakeIsDone, OwnIsDone, StaysOpen,
 some_is : {A : Type 0} {x y : A} → Some x ≡ Some y → x ≡ y
 some_is e = cc
 
-pub unmoved : (makes : Value → Result (List Value) ℕ) (did : Bool) (old new : NodeState) → did ≡ false → Does makes (Ok did) old new → new ≡ old
-unmoved makes did old new not does = subst (λ (b : Bool). Does makes (Ok b) old new) not does
+pub unmoved : (ends : Bool) (makes : Value → Result (List Value) ℕ) (did : Bool) (old new : NodeState) → did ≡ false → Does ends makes (Ok did) old new
+    → new ≡ old
+unmoved ends makes did old new not does = subst (λ (b : Bool). Does ends makes (Ok b) old new) not does
 
-pub does_from : (result : Result Bool AllocError) (makes makes' : Value → Result (List Value) ℕ) (first old new : NodeState)
-    → makes' ≡ makes → old ≡ first → Does makes' result old new → Does makes result first new
-does_from result makes makes' first old new same from does =
-    subst (λ (node : NodeState). Does makes result node new) from
-    (subst (λ (m : Value → Result (List Value) ℕ). Does m result old new) same does)
+pub does_from : (ends : Bool) (result : Result Bool AllocError) (makes makes' : Value → Result (List Value) ℕ) (first old new : NodeState)
+    → makes' ≡ makes → old ≡ first → Does ends makes' result old new → Does ends makes result first new
+does_from ends result makes makes' first old new same from does =
+    subst (λ (node : NodeState). Does ends makes result node new) from
+    (subst (λ (m : Value → Result (List Value) ℕ). Does ends m result old new) same does)
 
 -- an event that was done by a block which was as it is
-pub event_from : (makes makes' : Value → Result (List Value) ℕ) (did : Bool) (first old new : NodeState) → did ≡ true → makes' ≡ makes
-    → old ≡ first → Does makes' (Ok did) old new → ∥ HasEvent makes first new ∥₁
-event_from makes makes' did first old new said same from does =
-    does_from (Ok true) makes makes' first old new same from (subst (λ (b : Bool). Does makes' (Ok b) old new) said does)
+pub event_from : {ends : Bool} (makes makes' : Value → Result (List Value) ℕ) (did : Bool) (first old new : NodeState) → did ≡ true → makes' ≡ makes
+    → old ≡ first → Does ends makes' (Ok did) old new → ∥ HasEvent ends makes first new ∥₁
+event_from {ends = ends} makes makes' did first old new said same from does =
+    does_from ends (Ok true) makes makes' first old new same from (subst (λ (b : Bool). Does ends makes' (Ok b) old new) said does)
 
 -- the move that was found is the one that came too late
 pub missed : (result : Result Bool AllocError) (found : Option Move) (next : Move) (Late : Move → Type 0) (Tried : Type 0) → found ≡ Some next

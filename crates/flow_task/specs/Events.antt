@@ -38,11 +38,13 @@ pub record MovesNext (there : Type 0) (found : Option Move) (next : Move) : Type
   pub is_there : there
   pub found_is : found ≡ Some next
 
-module _ (makes : Value → Result (List Value) ℕ) where
+-- `ends` says whether jobs may end
+module _ (ends : Bool) (makes : Value → Result (List Value) ℕ) where
   abbrev pub BlockHappens : BlockEvent → NodeState → NodeState → Type 0
   BlockHappens BlockEvent.make old new = Follows (may_make old.block ≡ true) (Calls (Some NodeCall.make) old new)
   BlockHappens BlockEvent.begin old new = Follows (may_begin old.block ≡ true) (Calls (Some NodeCall.begin) old new)
-  BlockHappens (BlockEvent.end_job ticket) old new = Follows (may_end ticket old.block ≡ true) (new ≡ after_job makes ticket old)
+  BlockHappens (BlockEvent.end_job ticket) old new =
+      Follows ((ends ≡ true) × (may_end ticket old.block ≡ true)) (new ≡ after_job makes ticket old)
   BlockHappens (BlockEvent.complete p) old new =
       Follows ((p < length old.block.ports) × (may_complete p old.block ≡ true)) (Calls (Some (NodeCall.complete p)) old new)
   BlockHappens (BlockEvent.fault number) old new =
@@ -101,8 +103,8 @@ module _ {S : Type 0} (Looks : S → S → Type 0) where
     StepsBy (Err memory) old new = ∥ HasLooked old new ∥₁
 
 -- so many events are left after what a block did as before, or fewer: the others were done. Where as many are left, it is as it was
-pub record Spends (makes : Value → Result (List Value) ℕ) (before after : ℕ) (old new : NodeState) : Type 0 where
+pub record Spends (ends : Bool) (makes : Value → Result (List Value) ℕ) (before after : ℕ) (old new : NodeState) : Type 0 where
   pub less : after ≤ before
-  pub happens : ∥ TurnsBy AllLook (HasEvent makes) (before - after) old new ∥₁
+  pub happens : ∥ TurnsBy AllLook (HasEvent ends makes) (before - after) old new ∥₁
   pub grows : Extends old.journal new.journal
   pub kept : after ≡ before → new ≡ old

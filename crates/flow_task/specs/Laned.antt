@@ -5,12 +5,13 @@ use Rattle.flow_value.specs.declared.value.Value.{Value}
 use Rattle.flow_link.specs.Layout.{Layout}
 use Rattle.flow_link.specs.Plan.{block_in}
 use Rattle.flow_block.specs.Block.{job_message}
+use Rattle.flow_block.specs.Jobs.{is_out}
 use Rattle.flow_block.specs.Node.{NodeState}
 use Rattle.flow_block.specs.Peeks.{may_begin, may_end}
 use Rattle.flow_block_law.specs.JobsEnd.{after_job}
 use Rattle.flow_exec.specs.Execution.{SameWork}
 use Rattle.flow_exec.specs.declared.job.Job.{Job}
-use Rattle.flow_lane.specs.BlockLanes.{LanesState, has_ended, has_room, job_at, stage_at, with_free_ended}
+use Rattle.flow_lane.specs.BlockLanes.{LanesState, has_ended, has_room, has_ticket, job_at, stage_at, with_free_ended}
 use Rattle.flow_lane.specs.Items.{JobState, state_of}
 use Rattle.flow_poll.specs.declared.actor.TurnState.{TurnState}
 use Rattle.flow_poll.specs.declared.actor.TurnState.TheVariants as turn
@@ -41,6 +42,14 @@ OwnJobsStay {W} equal layout b makes old new lanes after =
     → (job_at (stage_at place after) ≡ Some job) ⊎ (new ≡ after_job makes job.ticket old)
 
 module _ {W : Type 0} where
+  -- each ticket that stands in a lane is out
+  abbrev pub LanesAreOut : NodeState → LanesState W → Type 0
+  LanesAreOut node lanes = (ticket : ℕ) → list_any (has_ticket ticket) lanes.sides ≡ true → is_out ticket node.block.jobs ≡ true
+
+  -- it stays so, if it was so
+  abbrev pub LanesStayOut : NodeState → NodeState → LanesState W → LanesState W → Type 0
+  LanesStayOut old new lanes after = LanesAreOut old lanes → LanesAreOut new after
+
   -- while a lane is free, no job may begin
   abbrev pub BeginIsDone : NodeState → LanesState W → Type 0
   BeginIsDone node lanes = list_any has_room lanes.sides ≡ true → may_begin node.block ≡ false
@@ -53,6 +62,11 @@ module _ {W : Type 0} where
   pub record LanesRest (makes : Value → Result (List Value) ℕ) (node : NodeState) (lanes : LanesState W) : Type 0 where
     pub jobs : JobsEndInPlace makes node lanes
     pub begin : BeginIsDone node lanes
+
+  -- a job with this ticket stands in one of the lanes, if there are any
+  abbrev pub stands_in : ℕ → Option (LanesState W) → Bool
+  stands_in ticket None = false
+  stands_in ticket (Some lanes) = list_any (has_ticket ticket) lanes.sides
 
   -- no job comes to the lanes any more, if there are any
   abbrev pub are_lanes_over : Option (LanesState W) → Bool

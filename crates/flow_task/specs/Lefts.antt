@@ -2,14 +2,17 @@
 use Rattle.std.specs.Prelude.{◌≡◌, ℕ, ◌+◌, ◌-◌, Bool, true, false, List, ◌∷◌, get_or, length, map}
 use Rattle.flow_lists.specs.Lists.{numbers_from}
 use Rattle.flow_link.specs.Planned.{layout_of}
+use Rattle.flow_block.specs.Jobs.{is_out}
+use Rattle.flow_block.specs.Node.{NodeState}
 use Rattle.flow_block.specs.Planned.{exit_place}
+use Rattle.flow_core.specs.State.{no_node}
 use Rattle.flow_exit.specs.Exit.{ExitState, fresh_exit}
 use Rattle.flow_input.specs.Input.{InputState, no_input}
 use Rattle.flow_input.specs.InputKeeps.{PostedStays}
 use Rattle.flow_task.specs.Begun.{begun_input}
 use Rattle.flow_task.specs.Lanes.{lane_count}
 use Rattle.flow_task.specs.Numbers.{closed_before, entry_count, is_open, open_before, place_in, task_count}
-use Rattle.flow_task.specs.Parts.{AllEntriesOf, AllTasksOf, board_layout, entry_link, entry_number, entry_state, exit_link, exit_state, task_number}
+use Rattle.flow_task.specs.Parts.{AllEntriesOf, AllTasksOf, board_layout, entry_link, entry_number, entry_state, exit_link, exit_state, stands_in_lane, task_number}
 use Rattle.flow_task.specs.Untouched.{AllUntouched}
 use Rattle.flow_task.specs.declared.board.Board.{Board}
 use Rattle.flow_task.specs.declared.input_task.InputTask.{InputTask}
@@ -47,6 +50,11 @@ module _ {W : Type 0} {w : _} {e : _} where
   -- the input at this place is no entry, or no call was made to any entry
   abbrev pub StaysAt : Board W → List (Entry W w e) → ℕ → Type 0
   StaysAt board entries q = is_open (board_layout board) board.opens.items q ≡ true → AllUntouched board entries
+
+  -- each ticket that stands in a lane of a block's task is out in the block with the task's number
+  abbrev pub TicketsAreOut : List NodeState → Task W w e → Type 0
+  TicketsAreOut nodes task =
+      (ticket : ℕ) → stands_in_lane ticket task ≡ true → is_out ticket (get_or nodes (task_number task) no_node).block.jobs ≡ true
 
   -- the input of an entry, and the end of an exit, stand at their places
   abbrev pub EntryIsAt : Board W → List InputState → Entry W w e → Type 0

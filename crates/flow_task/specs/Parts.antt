@@ -1,5 +1,5 @@
 -- What a contract sees of the parts of a scattered network.
-use Rattle.std.specs.Prelude.{◌≡◌, ℕ, Bool, List, [], ◌∷◌, Option, None}
+use Rattle.std.specs.Prelude.{◌≡◌, ℕ, Bool, false, List, [], ◌∷◌, Option, None}
 use Rattle.std.specs.declared.snapshot.Snapshot.{Snapshot}
 use Rattle.atomic_table.specs.Seated.{TableId}
 use Rattle.flow_link.specs.declared.plan.Plan.{Plan}
@@ -10,9 +10,12 @@ use Rattle.flow_link.specs.declared.trace.Mark.{Mark}
 use Rattle.flow_link.specs.declared.trace.Outcome.{Outcome}
 use Rattle.flow_link.specs.Layout.{Layout}
 use Rattle.flow_link.specs.Planned.{layout_of}
+use Rattle.flow_block.specs.Node.{NodeState}
+use Rattle.flow_core.specs.State.{no_node}
 use Rattle.flow_exit.specs.Exit.{ExitState}
 use Rattle.flow_input.specs.Input.{InputState}
 use Rattle.flow_apart.specs.declared.parts.NetParts.{NetParts}
+use Rattle.flow_task.specs.Laned.{stands_in}
 use Rattle.flow_task.specs.LaneTasks.{job_of}
 use Rattle.flow_task.specs.declared.board.Board.{Board}
 use Rattle.flow_task.specs.declared.numbered.Entry.{Entry}
@@ -66,6 +69,24 @@ module _ {W : Type 0} {w : _} {e : _} where
 
   abbrev pub marks_in : Task W w e → List Mark
   marks_in task = marks_by task.kind
+
+  -- its block; one that holds nothing of an input or a lane
+  abbrev pub node_by : Kind W w e → NodeState
+  node_by (kind.Block task) = task.block.node
+  node_by (kind.Input task) = no_node
+  node_by (kind.Lane task) = no_node
+
+  abbrev pub node_in : Task W w e → NodeState
+  node_in task = node_by task.kind
+
+  -- a job with this ticket stands in a lane of its block; in none of an input's, nor of the task of a lane
+  abbrev pub stands_by : ℕ → Kind W w e → Bool
+  stands_by ticket (kind.Block task) = stands_in ticket task.lanes
+  stands_by ticket (kind.Input task) = false
+  stands_by ticket (kind.Lane task) = false
+
+  abbrev pub stands_in_lane : ℕ → Task W w e → Bool
+  stands_in_lane ticket task = stands_by ticket task.kind
 
   -- the job that a lane does next, if one has come
   abbrev pub job_by : Kind W w e → Option (ℕ × ℕ)

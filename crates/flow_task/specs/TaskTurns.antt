@@ -1,5 +1,5 @@
 -- What a turn of a task comes to.
-use Rattle.std.specs.Prelude.{◌≡◌, ℕ, List, Result}
+use Rattle.std.specs.Prelude.{◌≡◌, ℕ, true, List, Result}
 use Rattle.flow_value.specs.declared.value.Value.{Value}
 use Rattle.flow_value.specs.declared.work.WorkFault.{WorkFault}
 use Rattle.flow_task.specs.Events.{AllLook, HasEvent, InputHappens, InputLooks, TurnsBy}
@@ -12,7 +12,7 @@ use Rattle.flow_task.specs.declared.numbered.Task.{Task}
 module _ {W : Type 0} {w : _} {e : _} (meaning : W → Value → Result (List Value) WorkFault) where
   abbrev pub TurnedBy : ℕ → Kind W w e → Kind W w e → Type 0
   TurnedBy n (kind.Block old) (kind.Block new) =
-      ∥ TurnsBy AllLook (HasEvent (makes_of meaning old.block)) n old.block.node new.block.node ∥₁
+      ∥ TurnsBy AllLook (HasEvent true (makes_of meaning old.block)) n old.block.node new.block.node ∥₁
   TurnedBy n (kind.Input old) (kind.Input new) = ∥ TurnsBy InputLooks InputHappens n old.input new.input ∥₁
   TurnedBy n (kind.Lane old) (kind.Lane new) = n ≡ 0
   TurnedBy n _ _ = ⊥

@@ -15,7 +15,7 @@ ghost use Rattle.flow_task.specs.Exits.{exit_due};
 ghost use Rattle.flow_task.specs.Inputs.{input_due, links_of_inputs};
 ghost use Rattle.flow_task.specs.Known.{in_known, ins_due, out_known, outs_due};
 ghost use Rattle.flow_task.specs.Lanes.{lane_count};
-ghost use Rattle.flow_task.specs.Lefts.{EntryIsAt, ExitIsAt, InputsLeft, IsTakenFrom, StaysAt};
+ghost use Rattle.flow_task.specs.Lefts.{EntryIsAt, ExitIsAt, InputsLeft, IsTakenFrom, StaysAt, TicketsAreOut};
 ghost use Rattle.flow_task.specs.Numbers.{closed_before, entry_count, is_open, task_count};
 ghost use Rattle.flow_task.specs.Parts.{AllEntriesOf, AllExitsOf, AllTasksOf, entry_number, exit_number, marks_in, task_number, board_layout, board_opens, board_wires};
 
@@ -39,7 +39,8 @@ pub struct Blocks {
 }
 
 impl Blocks {
-    /// Takes all blocks, which are the first of these tasks. There is room for them.
+    /// Takes all blocks, which are the first of these tasks. There is room for them. What stands in their lanes is let go: it is of messages
+    /// that the blocks keep, whose tickets are out.
     pub fn take<W: Runs>(&mut self, board: &Board<W>, tasks: &mut VecDeque<Task<W>>)
         requires of { AllTasksOf board.now tasks.old.items }
         requires numbers { map task_number tasks.old.items ≡ below (task_count (board_layout board.now) (board_opens board.now)) }
@@ -60,6 +61,7 @@ impl Blocks {
             (below (length (board_layout board.now).blocks)) }
         ensures journals { map (λ node. node.journal) self.new.nodes.items ≡
             map marks_in (take (length (board_layout board.now).blocks) tasks.old.items) }
+        ensures out { All (λ task. TicketsAreOut self.new.nodes.items task) tasks.old.items }
         ensures others { tasks.new.items ≡ drop (length (board_layout board.now).blocks) tasks.old.items }
     {
         for _ in 0..board.rest.plan.block_count() {

@@ -13,7 +13,7 @@ ghost use Rattle.flow_exec.specs.Jobs.{kind_in, message_in, ticket_in, work_in};
 ghost use Rattle.flow_exec.specs.Results.{job_in};
 ghost use Rattle.flow_lane.specs.BlockLanes.{has_ticket};
 ghost use Rattle.flow_task.specs.Events.{Does, Spends};
-ghost use Rattle.flow_task.specs.Laned.{BeginIsDone, IsOwnJob, JobsEndInPlace, LanesRest, OwnJobsStay, TakesBack};
+ghost use Rattle.flow_task.specs.Laned.{BeginIsDone, IsOwnJob, JobsEndInPlace, LanesRest, LanesStayOut, OwnJobsStay, TakesBack};
 
 use crate::board::Board;
 use crate::gate::Gate;
@@ -43,9 +43,10 @@ impl<W: Runs> BlockTask<W> {
         ensures ins { self.new.ins ≡ self.old.ins }
         ensures outs { self.new.outs ≡ self.old.outs }
         ensures note { self.new.note ≡ self.old.note }
-        ensures spends { Spends (makes_of W.meaning self.old) left.old left.new self.old.node self.new.node }
+        ensures spends { Spends true (makes_of W.meaning self.old) left.old left.new self.old.node self.new.node }
         ensures rests { OnOk result (0 < left.old → left.new ≡ left.old → LanesRest (makes_of W.meaning self.old) self.old.node lanes.new) }
         ensures none { left.old ≡ 0 → lanes.new ≡ lanes.old }
+        ensures out { LanesStayOut self.old.node self.new.node lanes.old lanes.new }
     {
         while *left > 0 {
             if !self.work_in_lanes(alloc, board, lanes, gate)? {
@@ -70,8 +71,9 @@ impl<W: Runs> BlockTask<W> {
         ensures ins { self.new.ins ≡ self.old.ins }
         ensures outs { self.new.outs ≡ self.old.outs }
         ensures note { self.new.note ≡ self.old.note }
-        ensures does { Does (makes_of W.meaning self.old) result self.old.node self.new.node }
+        ensures does { Does true (makes_of W.meaning self.old) result self.old.node self.new.node }
         ensures rests { IfOk result (λ did. did ≡ false → LanesRest (makes_of W.meaning self.old) self.old.node lanes.new) }
+        ensures out { LanesStayOut self.old.node self.new.node lanes.old lanes.new }
     {
         if self.end_from_lane(board, lanes)? {
             return Ok(true);
@@ -97,8 +99,9 @@ impl<W: Runs> BlockTask<W> {
         ensures ins { self.new.ins ≡ self.old.ins }
         ensures outs { self.new.outs ≡ self.old.outs }
         ensures note { self.new.note ≡ self.old.note }
-        ensures does { Does (makes_of W.meaning self.old) result self.old.node self.new.node }
+        ensures does { Does true (makes_of W.meaning self.old) result self.old.node self.new.node }
         ensures still { IfOk result (λ did. did ≡ false → JobsEndInPlace (makes_of W.meaning self.old) self.old.node lanes.now) }
+        ensures out { LanesStayOut self.old.node self.new.node lanes.now lanes.now }
     {
         if !lanes.are_free() {
             return Ok(false);
@@ -113,10 +116,11 @@ impl<W: Runs> BlockTask<W> {
         ensures ins { self.new.ins ≡ self.old.ins }
         ensures outs { self.new.outs ≡ self.old.outs }
         ensures note { self.new.note ≡ self.old.note }
-        ensures does { Does (makes_of W.meaning self.old) result self.old.node self.new.node }
+        ensures does { Does true (makes_of W.meaning self.old) result self.old.node self.new.node }
         ensures put { result ≡ Ok true → list_any (has_ticket (next_ticket self.old.node.block)) lanes.new.sides ≡ true }
         ensures still { IfOk result (λ did. did ≡ false → BeginIsDone self.old.node lanes.old) }
         ensures lanes { IfOk result (λ did. did ≡ false → lanes.new ≡ lanes.old) }
+        ensures out { LanesStayOut self.old.node self.new.node lanes.old lanes.new }
     {
         if !self.node.block().may_begin() || !lanes.has_room() {
             return Ok(false);
@@ -141,8 +145,9 @@ impl<W: Runs> BlockTask<W> {
         ensures ins { self.new.ins ≡ self.old.ins }
         ensures outs { self.new.outs ≡ self.old.outs }
         ensures note { self.new.note ≡ self.old.note }
-        ensures does { Does (makes_of W.meaning self.old) result self.old.node self.new.node }
+        ensures does { Does true (makes_of W.meaning self.old) result self.old.node self.new.node }
         ensures own { OwnJobsStay W.eq (layout_of self.old.of.value.rest.plan) self.old.number (makes_of W.meaning self.old) self.old.node self.new.node lanes.old lanes.new }
+        ensures out { LanesStayOut self.old.node self.new.node lanes.old lanes.new }
     {
         let Some((place, done)) = lanes.next_result() else {
             return Ok(false);

@@ -1,6 +1,9 @@
 //! The lanes of blocks that have several: each block's, and one by one for the threads that do their jobs.
-ghost use Rattle.std.specs.Prelude.{◌≡◌, ◌<◌, ◌+◌, length, IfOk, OnOk};
+ghost use Rattle.std.specs.Prelude.{◌≡◌, ◌<◌, ◌+◌, true, length, IfOk, OnOk};
+ghost use Rattle.std.specs.List.{list_all};
+ghost use Rattle.std.specs.Option.{ForSome};
 ghost use Rattle.flow_block.specs.Planned.{lanes_of};
+ghost use Rattle.flow_lane.specs.BlockLanes.{has_room};
 ghost use Rattle.flow_link.specs.Planned.{layout_of};
 ghost use Rattle.flow_task.specs.Lanes.{lane_count, tasks_for};
 
@@ -33,10 +36,17 @@ fn tasks_for<W>(plan: &Plan<W>, number: usize) -> usize
     }
 }
 
+/// The lanes of a block, in which nothing is.
+#[derive(Drop)]
+pub(crate) struct FreeLanes<W: Runs> {
+    pub(crate) lanes: JobLanes<W>,
+    ghost free: { list_all has_room lanes.sides ≡ true },
+}
+
 /// By the blocks' numbers the lanes of each, if it has several; and all of them in the same order.
 #[derive(Drop)]
 pub(crate) struct LaneRows<W: Runs> {
-    pub(crate) rows: Vec<Option<JobLanes<W>>>,
+    pub(crate) rows: Vec<Option<FreeLanes<W>>>,
     pub(crate) lanes: Vec<BlockLane<W>>,
 }
 
@@ -70,7 +80,7 @@ impl<W: Runs> LaneRows<W> {
         }
         let work = work_of(alloc, plan.block(number))?;
         let (row, lanes) = JobLanes::new(alloc, work, count)?;
-        self.rows.push(Some(row))?;
+        self.rows.push(Some(FreeLanes { lanes: row }))?;
         self.push_all(number, lanes)
     }
 
@@ -83,6 +93,16 @@ impl<W: Runs> LaneRows<W> {
             self.lanes.push(BlockLane { block, lane })?;
         }
         Ok(())
+    }
+}
+
+/// The lanes themselves, if a block has several.
+pub(crate) fn lanes_in<W: Runs>(row: Option<FreeLanes<W>>) -> Option<JobLanes<W>>
+    ensures { ForSome result (λ lanes. list_all has_room lanes.sides ≡ true) }
+{
+    match row {
+        Some(free) => Some(free.lanes),
+        None => None,
     }
 }
 

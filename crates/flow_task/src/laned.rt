@@ -6,7 +6,7 @@ ghost use Rattle.flow_poll.specs.declared.actor.TurnState.TheVariants.{Ended, Mo
 ghost use Rattle.flow_task.specs.Cells.{last_outcome};
 ghost use Rattle.flow_task.specs.Events.{AllLook, HasEvent, HasLooked, TurnsBy};
 ghost use Rattle.flow_lane.specs.BlockLanes.{has_ended};
-ghost use Rattle.flow_task.specs.Laned.{LanesRest, OnlyEnd, are_lanes_over, are_more_ended, is_ended, state_with};
+ghost use Rattle.flow_task.specs.Laned.{LanesAreOut, LanesRest, LanesStayOut, OnlyEnd, are_lanes_over, are_more_ended, is_ended, state_with};
 ghost use Rattle.flow_task.specs.Tasks.{journal_of, makes_of};
 ghost use Rattle.flow_task.specs.Turns.{IsOver, IsStill, are_links_over, has_done, state_of};
 
@@ -18,11 +18,12 @@ use flow_poll::{TurnState, Turned};
 use flow_value::Runs;
 use std::alloc::{AllocError, Global};
 
-/// A block with its lanes. A block that has one lane does its jobs itself, and has none here.
+/// A block with its lanes. A block that has one lane does its jobs itself, and has none here. Each ticket that stands in a lane is out.
 #[derive(Drop)]
 pub struct LanedTask<W: Runs> {
     pub(crate) block: BlockTask<W>,
     pub(crate) lanes: Option<JobLanes<W>>,
+    ghost out: { ForSome lanes (λ its. LanesAreOut block.node its) },
 }
 
 impl<W: Runs> LanedTask<W> {
@@ -44,7 +45,7 @@ impl<W: Runs> LanedTask<W> {
         ensures nothing { budget ≡ 0 → journal_of self.new.block ≡ journal_of self.old.block }
         ensures looked { OnErr result (∥ HasLooked AllLook self.old.block.node self.new.block.node ∥₁) }
         ensures happens { IfOk result (λ turned.
-            ∥ TurnsBy AllLook (HasEvent (makes_of W.meaning self.old.block)) turned.events self.old.block.node self.new.block.node ∥₁) }
+            ∥ TurnsBy AllLook (HasEvent true (makes_of W.meaning self.old.block)) turned.events self.old.block.node self.new.block.node ∥₁) }
         ensures lanes { budget ≡ 0 → OnlyEnd self.old.lanes self.new.lanes }
         ensures state { IfOk result (λ turned. turned.state ≡
             state_with (are_more_ended self.old.lanes self.new.lanes) (are_lanes_over self.new.lanes)
@@ -92,7 +93,7 @@ impl<W: Runs> BlockTask<W> {
         ensures nothing { budget ≡ 0 → journal_of self.new ≡ journal_of self.old }
         ensures looked { OnErr result (∥ HasLooked AllLook self.old.node self.new.node ∥₁) }
         ensures happens { IfOk result (λ turned.
-            ∥ TurnsBy AllLook (HasEvent (makes_of W.meaning self.old)) turned.events self.old.node self.new.node ∥₁) }
+            ∥ TurnsBy AllLook (HasEvent true (makes_of W.meaning self.old)) turned.events self.old.node self.new.node ∥₁) }
         ensures lanes { budget ≡ 0 → OnlyEnd (Some lanes.old) (Some lanes.new) }
         ensures state { IfOk result (λ turned. turned.state ≡
             state_with (are_more_ended (Some lanes.old) (Some lanes.new)) (are_lanes_over (Some lanes.new))
@@ -104,6 +105,7 @@ impl<W: Runs> BlockTask<W> {
             self.new.ins.items self.new.outs.items) }
         ensures all_look { IfOk result (λ turned. turned.events ≡ 0 → AllLook self.old.node self.new.node) }
         ensures rests { IfOk result (λ turned. 0 < budget → turned.events ≡ 0 → LanesRest (makes_of W.meaning self.new) self.new.node lanes.new) }
+        ensures out { LanesStayOut self.old.node self.new.node lanes.old lanes.new }
     {
         let policy = JobPolicy {
             in_place: false,

@@ -26,7 +26,7 @@ ghost use Rattle.flow_task.specs.Absent.{AllThere};
 
 use crate::board::Board;
 use crate::input_task::InputTask;
-use crate::lane_rows::LaneRows;
+use crate::lane_rows::{FreeLanes, LaneRows, lanes_in};
 use crate::lane_task::{BlockLane, LaneTask};
 use crate::laned::LanedTask;
 use crate::numbered::{Entry, Exit, Kind, Scattered, Task, Watch};
@@ -37,7 +37,6 @@ use crate::turn::Station;
 use flow_block::Node;
 use flow_exit::ExitEnd;
 use flow_input::Input;
-use flow_lane::JobLanes;
 use flow_link::LinkId;
 use flow_value::{Parcel, Runs};
 use flow_wire::{SourceEnd, TargetEnd};
@@ -68,7 +67,7 @@ impl<W: Runs> Board<W> {
         nodes: Vec<Node>,
         outs: Vec<Vec<SourceEnd>>,
         ins: Vec<Vec<Vec<TargetEnd>>>,
-        rows: Vec<Option<JobLanes<W>>>,
+        rows: Vec<Option<FreeLanes<W>>>,
         tasks: &mut Vec<Task<W>>,
     )
         requires count { length nodes.items ≡ length (layout_of self.now.rest.plan).blocks }
@@ -114,7 +113,7 @@ impl<W: Runs> Board<W> {
         node: Node,
         outs: Vec<SourceEnd>,
         ins: Vec<Vec<TargetEnd>>,
-        lanes: Option<JobLanes<W>>,
+        lanes: Option<FreeLanes<W>>,
     ) -> Task<W>
         requires there { number < length (layout_of self.now.rest.plan).blocks }
         requires law { ∥ NodeLaw (layout_of self.now.rest.plan) (works_of W.meaning (layout_of self.now.rest.plan)) number node ∥₁ }
@@ -138,7 +137,10 @@ impl<W: Runs> Board<W> {
         };
         Task {
             number,
-            kind: Kind::Block(LanedTask { block, lanes }),
+            kind: Kind::Block(LanedTask {
+                block,
+                lanes: lanes_in(lanes),
+            }),
         }
     }
 

@@ -136,7 +136,7 @@ impl<W: Runs> BlockTask<W> {
         ensures number { self.new.number ≡ self.old.number }
         ensures ins { self.new.ins ≡ self.old.ins }
         ensures outs { self.new.outs ≡ self.old.outs }
-        ensures does { Does (makes_of W.meaning self.old) result self.old.node self.new.node }
+        ensures does { Does policy.now.in_place (makes_of W.meaning self.old) result self.old.node self.new.node }
         ensures still { IfOk result (λ did. did ≡ false → OwnIsDone (makes_of W.meaning self.old) self.old.node policy.now.in_place) }
     {
         if self.make_once(alloc)? {
@@ -161,7 +161,7 @@ impl<W: Runs> BlockTask<W> {
         ensures number { self.new.number ≡ self.old.number }
         ensures ins { self.new.ins ≡ self.old.ins }
         ensures outs { self.new.outs ≡ self.old.outs }
-        ensures does { Does (makes_of W.meaning self.old) result self.old.node self.new.node }
+        ensures does { Does policy.now.in_place (makes_of W.meaning self.old) result self.old.node self.new.node }
         ensures still { IfOk result (λ did. did ≡ false → WorkIsDone (makes_of W.meaning self.old) self.old.node policy.now.in_place) }
     {
         if !policy.in_place {
@@ -179,7 +179,7 @@ impl<W: Runs> BlockTask<W> {
         ensures number { self.new.number ≡ self.old.number }
         ensures ins { self.new.ins ≡ self.old.ins }
         ensures outs { self.new.outs ≡ self.old.outs }
-        ensures does { Does (makes_of W.meaning self.old) result self.old.node self.new.node }
+        ensures does { Does false (makes_of W.meaning self.old) result self.old.node self.new.node }
         ensures still { IfOk result (λ did. did ≡ false → MakeIsDone (makes_of W.meaning self.old) self.old.node) }
     {
         if !self.node.block().may_make() {
@@ -202,7 +202,7 @@ impl<W: Runs> BlockTask<W> {
         ensures ins { self.new.ins ≡ self.old.ins }
         ensures outs { self.new.outs ≡ self.old.outs }
         ensures note { self.new.note ≡ self.old.note }
-        ensures does { Does (makes_of W.meaning self.old) result self.old.node self.new.node }
+        ensures does { Does true (makes_of W.meaning self.old) result self.old.node self.new.node }
         ensures still { IfOk result (λ did. did ≡ false → JobsAreDone (makes_of W.meaning self.old) self.old.node) }
     {
         match self.node.block().next_end() {
@@ -222,7 +222,7 @@ impl<W: Runs> BlockTask<W> {
         ensures number { self.new.number ≡ self.old.number }
         ensures ins { self.new.ins ≡ self.old.ins }
         ensures outs { self.new.outs ≡ self.old.outs }
-        ensures does { Does (makes_of W.meaning self.old) result self.old.node self.new.node }
+        ensures does { Does false (makes_of W.meaning self.old) result self.old.node self.new.node }
         ensures still { IfOk result (λ did. did ≡ false → may_begin self.old.node.block ≡ false) }
     {
         if !self.node.block().may_begin() {
@@ -238,7 +238,7 @@ impl<W: Runs> BlockTask<W> {
         ensures number { self.new.number ≡ self.old.number }
         ensures ins { self.new.ins ≡ self.old.ins }
         ensures outs { self.new.outs ≡ self.old.outs }
-        ensures does { Does (makes_of W.meaning self.old) result self.old.node self.new.node }
+        ensures does { Does false (makes_of W.meaning self.old) result self.old.node self.new.node }
         ensures still { IfOk result (λ did. did ≡ false → StaysOpen self.old.node.block) }
     {
         if is_running(self.node.block()) {

@@ -63,7 +63,7 @@ impl<W: Runs> BlockTask<W> {
         ensures nothing { budget ≡ 0 → journal_of self.new ≡ journal_of self.old }
         ensures looked { OnErr result (∥ HasLooked AllLook self.old.node self.new.node ∥₁) }
         ensures happens { IfOk result (λ turned.
-            ∥ TurnsBy AllLook (HasEvent (makes_of W.meaning self.old)) turned.events self.old.node self.new.node ∥₁) }
+            ∥ TurnsBy AllLook (HasEvent policy.now.in_place (makes_of W.meaning self.old)) turned.events self.old.node self.new.node ∥₁) }
         ensures all_look { IfOk result (λ turned. turned.events ≡ 0 → AllLook self.old.node self.new.node) }
         ensures idle { IfOk result (λ turned. turned.events ≡ 0 → journal_of self.new ≡ journal_of self.old) }
         ensures state { IfOk result (λ turned. turned.state ≡
@@ -189,7 +189,7 @@ impl<W: Runs> BlockTask<W> {
         requires of { self.old.of.value ≡ board.now }
         ensures of { self.new.of.value ≡ self.old.of.value }
         ensures number { self.new.number ≡ self.old.number }
-        ensures spends { Spends (makes_of W.meaning self.old) left.old left.new self.old.node self.new.node }
+        ensures spends { Spends policy.now.in_place (makes_of W.meaning self.old) left.old left.new self.old.node self.new.node }
         ensures still { OnOk result (0 < left.old → left.new ≡ left.old → IsStill (makes_of W.meaning self.old) self.new.node policy.now.in_place
             self.new.ins.items self.new.outs.items) }
     {
@@ -223,7 +223,7 @@ impl<W: Runs> BlockTask<W> {
         requires of { self.old.of.value ≡ board.now }
         ensures of { self.new.of.value ≡ self.old.of.value }
         ensures number { self.new.number ≡ self.old.number }
-        ensures spends { Spends (makes_of W.meaning self.old) left.old left.new self.old.node self.new.node }
+        ensures spends { Spends policy.now.in_place (makes_of W.meaning self.old) left.old left.new self.old.node self.new.node }
         ensures still { OnOk result (0 < left.old → left.new ≡ left.old → self.old.at ≡ Station.In 0 0 →
             IsStill (makes_of W.meaning self.old) self.old.node policy.now.in_place self.new.ins.items self.new.outs.items) }
         ensures back { OnOk result (0 < left.old → left.new ≡ left.old → self.new.at ≡ Station.In 0 0) }
@@ -248,7 +248,7 @@ impl<W: Runs> BlockTask<W> {
         requires of { self.old.of.value ≡ board.now }
         ensures of { self.new.of.value ≡ self.old.of.value }
         ensures number { self.new.number ≡ self.old.number }
-        ensures spends { Spends (makes_of W.meaning self.old) left.old left.new self.old.node self.new.node }
+        ensures spends { Spends policy.now.in_place (makes_of W.meaning self.old) left.old left.new self.old.node self.new.node }
         ensures still { OnOk result (0 < left.old → left.new ≡ left.old → port ≡ 0 → place ≡ 0 →
             IsStill (makes_of W.meaning self.old) self.old.node policy.now.in_place self.new.ins.items self.new.outs.items) }
         ensures back { OnOk result (0 < left.old → left.new ≡ left.old → self.new.at ≡ Station.In 0 0) }
@@ -271,7 +271,7 @@ impl<W: Runs> BlockTask<W> {
         ensures of { self.new.of.value ≡ self.old.of.value }
         ensures number { self.new.number ≡ self.old.number }
         ensures ins { self.new.ins ≡ self.old.ins }
-        ensures spends { Spends (makes_of W.meaning self.old) left.old left.new self.old.node self.new.node }
+        ensures spends { Spends policy.now.in_place (makes_of W.meaning self.old) left.old left.new self.old.node self.new.node }
         ensures own { OnOk result (0 < left.old → left.new ≡ left.old → OwnIsDone (makes_of W.meaning self.old) self.old.node policy.now.in_place) }
         ensures outs { OnOk result (0 < left.old → left.new ≡ left.old → (k : ℕ) → k < out_count self.old.node →
             OutIsStill k self.old.node self.new.outs.items) }
@@ -295,7 +295,7 @@ impl<W: Runs> BlockTask<W> {
         ensures of { self.new.of.value ≡ self.old.of.value }
         ensures number { self.new.number ≡ self.old.number }
         ensures ins { self.new.ins ≡ self.old.ins }
-        ensures spends { Spends (makes_of W.meaning self.old) left.old left.new self.old.node self.new.node }
+        ensures spends { Spends policy.now.in_place (makes_of W.meaning self.old) left.old left.new self.old.node self.new.node }
         ensures still { IfOk result (λ all. all ≡ true → left.new ≡ left.old → OwnIsDone (makes_of W.meaning self.old) self.old.node policy.now.in_place) }
         ensures stops { IfOk result (λ all. all ≡ false → 0 < left.old → left.new < left.old) }
     {
@@ -321,7 +321,7 @@ impl<W: Runs> BlockTask<W> {
         ensures of { self.new.of.value ≡ self.old.of.value }
         ensures number { self.new.number ≡ self.old.number }
         ensures ins { self.new.ins ≡ self.old.ins }
-        ensures spends { Spends (makes_of W.meaning self.old) left.old left.new self.old.node self.new.node }
+        ensures spends { Spends false (makes_of W.meaning self.old) left.old left.new self.old.node self.new.node }
         ensures still { OnOk result (0 < left.old → left.new ≡ left.old → first ≡ 0 → (k : ℕ) → k < out_count self.old.node →
             OutIsStill k self.old.node self.new.outs.items) }
         ensures back { OnOk result (0 < left.old → left.new ≡ left.old → self.new.at ≡ Station.In 0 0) }
@@ -349,7 +349,7 @@ impl<W: Runs> BlockTask<W> {
         requires of { self.old.of.value ≡ board.now }
         ensures of { self.new.of.value ≡ self.old.of.value }
         ensures number { self.new.number ≡ self.old.number }
-        ensures spends { Spends (makes_of W.meaning self.old) left.old left.new self.old.node self.new.node }
+        ensures spends { Spends false (makes_of W.meaning self.old) left.old left.new self.old.node self.new.node }
         ensures still { IfOk result (λ all. all ≡ true → left.new ≡ left.old → first ≡ 0 → place ≡ 0 → (p : ℕ) →
             p < length self.old.node.block.ports → PortIsStill p self.old.node self.new.ins.items) }
         ensures stops { IfOk result (λ all. all ≡ false → 0 < left.old → left.new < left.old) }
@@ -375,7 +375,7 @@ impl<W: Runs> BlockTask<W> {
         requires port { port < length self.old.node.block.ports }
         ensures of { self.new.of.value ≡ self.old.of.value }
         ensures number { self.new.number ≡ self.old.number }
-        ensures spends { Spends (makes_of W.meaning self.old) left.old left.new self.old.node self.new.node }
+        ensures spends { Spends false (makes_of W.meaning self.old) left.old left.new self.old.node self.new.node }
         ensures still { IfOk result (λ all. all ≡ true → left.new ≡ left.old → first ≡ 0 → PortIsStill port self.old.node self.new.ins.items) }
         ensures others { IfOk result (λ all. left.new ≡ left.old → InsMissStill self.old.ins.items self.new.ins.items) }
         ensures stops { IfOk result (λ all. all ≡ false → 0 < left.old → left.new < left.old) }
@@ -404,7 +404,7 @@ impl<W: Runs> BlockTask<W> {
         requires left { 0 < left.old }
         ensures of { self.new.of.value ≡ self.old.of.value }
         ensures number { self.new.number ≡ self.old.number }
-        ensures spends { Spends (makes_of W.meaning self.old) left.old left.new self.old.node self.new.node }
+        ensures spends { Spends false (makes_of W.meaning self.old) left.old left.new self.old.node self.new.node }
         ensures still { OnOk result (left.new ≡ left.old → InIsStill port place self.old.node self.new.ins.items) }
         ensures others { OnOk result (left.new ≡ left.old → InsMissStill self.old.ins.items self.new.ins.items) }
     {
@@ -436,7 +436,7 @@ impl<W: Runs> BlockTask<W> {
         requires left { 0 < left.old }
         ensures of { self.new.of.value ≡ self.old.of.value }
         ensures number { self.new.number ≡ self.old.number }
-        ensures spends { Spends (makes_of W.meaning self.old) left.old left.new self.old.node self.new.node }
+        ensures spends { Spends false (makes_of W.meaning self.old) left.old left.new self.old.node self.new.node }
         ensures less { left.new < left.old }
     {
         self.open(board, port, place);
@@ -464,7 +464,7 @@ impl<W: Runs> BlockTask<W> {
         ensures of { self.new.of.value ≡ self.old.of.value }
         ensures number { self.new.number ≡ self.old.number }
         ensures ins { self.new.ins ≡ self.old.ins }
-        ensures spends { Spends (makes_of W.meaning self.old) left.old left.new self.old.node self.new.node }
+        ensures spends { Spends false (makes_of W.meaning self.old) left.old left.new self.old.node self.new.node }
         ensures still { OnOk result (left.new ≡ left.old → OutIsStill place self.old.node self.new.outs.items) }
         ensures others { OnOk result (left.new ≡ left.old → OutsMissStill self.old.outs.items self.new.outs.items) }
     {
@@ -521,7 +521,7 @@ impl<W: Runs> BlockTask<W> {
         ensures of { self.new.of.value ≡ self.old.of.value }
         ensures number { self.new.number ≡ self.old.number }
         ensures ins { self.new.ins ≡ self.old.ins }
-        ensures does { Does (makes_of W.meaning self.old) result self.old.node self.new.node }
+        ensures does { Does false (makes_of W.meaning self.old) result self.old.node self.new.node }
         ensures still { IfOk result (λ did. did ≡ false → OutIsStill place self.old.node self.new.outs.items) }
         ensures others { IfOk result (λ did. did ≡ false → OutsMissStill self.old.outs.items self.new.outs.items) }
     {
@@ -538,7 +538,7 @@ impl<W: Runs> BlockTask<W> {
         requires there { place < in_count port self.old.node }
         ensures of { self.new.of.value ≡ self.old.of.value }
         ensures number { self.new.number ≡ self.old.number }
-        ensures does { Does (makes_of W.meaning self.old) result self.old.node self.new.node }
+        ensures does { Does false (makes_of W.meaning self.old) result self.old.node self.new.node }
         ensures still { IfOk result (λ did. did ≡ false → InIsStill port place self.old.node self.new.ins.items) }
     {
         match self.node.next_in(port as usize, place) {

@@ -6,6 +6,7 @@ use Rattle.flow_core.specs.Inputs.{InputsStay}
 use Rattle.flow_core.specs.InOrder.{journals_of}
 use Rattle.flow_task.specs.Begun.{ClosedInputsStay, JournalsGoOn, begun_in}
 use Rattle.flow_board.specs.Gathers.{EntryIsKept, ExitIsKept, GathersFrom}
+use Rattle.flow_task.specs.Lefts.{TicketsAreOut}
 use Rattle.flow_task.specs.Untouched.{AllUntouched, IsUntouched}
 use Rattle.flow_task.specs.declared.board.Board.{Board}
 use Rattle.flow_task.proofs.Reordered.{entries_sorted, exits_sorted, tasks_sorted}
@@ -115,3 +116,10 @@ returns-in-Ok-clause-exits g c =
     All-permutation (λ exit. ExitIsKept g.W.Runs.meaning board net exit) sorted c.args.parts.exits.items
     (IsPermutation-sym c.args.parts.exits.items sorted c.sort.ensures.exits)
     (subst (λ (its : Board _). All (λ exit. ExitIsKept g.W.Runs.meaning its net exit) sorted) c.sort.ensures.board c.fill.ensures.exits)
+
+pub returns-in-Ok-clause-out : goal.returns-in-Ok-clause-out
+returns-in-Ok-clause-out g c =
+    let net = parts_of c.fill.result in
+    let sorted = c.sort.new.self.tasks.items in
+    All-permutation (λ task. TicketsAreOut net.nodes task) sorted c.args.parts.tasks.items
+    (IsPermutation-sym c.args.parts.tasks.items sorted c.sort.ensures.tasks) c.fill.ensures.out

@@ -24,14 +24,16 @@ use Rattle.flow_task.specs.Begun.{begun_in, begun_journal}
 use Rattle.flow_task.specs.Events.{HasLooked, InputLooks}
 use Rattle.flow_task.specs.Inputs.{input_due, links_of_inputs}
 use Rattle.flow_task.specs.Lanes.{lane_count}
-use Rattle.flow_task.specs.Lefts.{EntryIsAt}
+use Rattle.flow_task.specs.Lefts.{EntryIsAt, TicketsAreOut}
 use Rattle.flow_task.specs.Numbers.{closed_before, task_count}
 use Rattle.flow_task.specs.Parts.{AllTasksOf, exit_link, marks_in, task_number}
 use Rattle.flow_task.specs.Untouched.{AllUntouched}
 use Rattle.flow_task.specs.declared.numbered.Entry.{Entry}
+use Rattle.flow_task.specs.declared.numbered.Task.{Task}
 use Rattle.flow_board.proofs.AllLooked.{input_looked}
 use Rattle.flow_board.proofs.AskedNoMore.{asked_no_more, due_as_before, laws_stay, none_waits, there}
 use Rattle.flow_task.proofs.InputsStayed.{all_stay, closed_stay, looked_stays}
+use Rattle.flow_board.proofs.JobsLooked.{tickets_looked}
 use Rattle.flow_board.proofs.JournalsBegin.{journals_begin}
 use Rattle.flow_task.proofs.Makes.{numbers_behind, tasks_behind}
 use Rattle.flow_board.proofs.PartsKept.{entry_kept, exit_kept}
@@ -193,3 +195,19 @@ returns-clause-exits g c =
     (each_exit board exits c.requires.exits_of k d low)
     (there c.take-3.new.self.exits.items mid.exits c.ask_no_more.ensures (exit_place (layout_of board.rest.plan) (exit_link exit))
     ∙ ap asked_no_more (c.take-3.ensures.exits k d low))
+
+pub returns-clause-out : goal.returns-clause-out
+returns-clause-out g c =
+    let board = c.args.parts.board in
+    let tasks = c.args.parts.tasks.items in
+    let mid : NetState = record {
+      nodes = c.take.new.self.nodes.items;
+      inputs = c.take-2.new.self.inputs.items;
+      exits = c.ask_no_more.new.exits.items;
+      lines = board.rest.lines.items;
+    } in
+    let out = subst (λ (all : List (Task _ _ _)). All (λ task. TicketsAreOut mid.nodes task) all) c.from_vec-tasks.ensures.items
+    c.take.ensures.out in
+    λ k d low.
+    tickets_looked g.W.Runs.meaning (layout_of board.rest.plan) mid (parts_of c.put_together.result) c.put_together.ensures.looked
+    (slice_index_or tasks k d) (out k d low)

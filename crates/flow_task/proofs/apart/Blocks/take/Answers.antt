@@ -1,4 +1,4 @@
-use Rattle.std.proofs.Common.{◌≡◌, ℕ, ◌≤◌, ◌+◌, ◌-◌, length, map, get_or, refl, sym, ap, ◌∙◌, subst, arith}
+use Rattle.std.proofs.Common.{rules, ◌≡◌, ℕ, ◌≤◌, ◌+◌, ◌-◌, length, map, get_or, take, refl, sym, ap, ◌∙◌, subst, arith}
 use Rattle.flow_lists.specs.Lists.{numbers_from}
 use Rattle.flow_link.specs.Planned.{layout_of}
 use Rattle.flow_block_law.specs.NodeLaw.{NodeLaw}
@@ -6,8 +6,9 @@ use Rattle.flow_core.specs.State.{no_node}
 use Rattle.flow_exec.specs.Works.{works_of}
 use Rattle.flow_task.specs.Known.{in_known, ins_due, out_known, outs_due}
 use Rattle.flow_task.specs.Numbers.{task_count}
-use Rattle.flow_task.specs.Parts.{AllTasksOf, marks_by, marks_in, task_number}
+use Rattle.flow_task.specs.Parts.{AllTasksOf, node_by, node_in, task_number}
 use Rattle.flow_task.specs.declared.board.Board.{Board}
+use Rattle.flow_task.proofs.LanesTaken.{nodes_mark, tickets_out}
 use Rattle.flow_task.proofs.Places.{count_is}
 use Rattle.flow_task.proofs.TakenApart.{count_left, known_there, number_here}
 use Rattle.flow_task.proofs.BlocksApart.{BlocksTaken, block_more}
@@ -79,14 +80,14 @@ loop-preserved g c =
     block.of.value board block.number n its number block.ins_know in
     let less : left - 1 ≡ task_count layout board.opens.items - (n + 1) = omega arith in
     let taken = subst (λ tasks. BlocksTaken layout works wires (λ row. map out_known row.items)
-    (λ ports. map (λ row. map in_known row.items) ports.items) marks_in c.args.tasks.now.items n c.loop.self.nodes.items c.loop.self.outs.items
+    (λ ports. map (λ row. map in_known row.items) ports.items) node_in c.args.tasks.now.items n c.loop.self.nodes.items c.loop.self.outs.items
     c.loop.self.ins.items tasks) split i.0 in (
       block_more layout works wires (λ row. map out_known row.items)
-          (λ ports. map (λ row. map in_known row.items) ports.items) marks_in c.args.tasks.now.items n c.loop.self.nodes.items c.loop.self.outs.items
+          (λ ports. map (λ row. map in_known row.items) ports.items) node_in c.args.tasks.now.items n c.loop.self.nodes.items c.loop.self.outs.items
           c.loop.self.ins.items task rest taken block.node block.outs block.ins c.push_reserved.new.self.items c.push_reserved-in-loop.new.self.items
           c.push_reserved-in-loop-2.new.self.items
           c.push_reserved.ensures.items c.push_reserved-in-loop.ensures.items c.push_reserved-in-loop-2.ensures.items law outs ins
-          (sym (ap marks_by c.in-Block.is)),
+          (sym (ap node_by c.in-Block.is)),
       (
         of.1,
         (
@@ -101,3 +102,18 @@ loop-preserved g c =
         ),
       ),
     )
+
+pub returns-clause-journals : goal.returns-clause-journals
+returns-clause-journals g c =
+    let tasks = c.args.tasks.now.items in
+    let blocks = length (layout_of c.args.board.now.rest.plan).blocks in
+    let all : c.loop.counter ≡ blocks = search rules in
+    nodes_mark tasks blocks c.loop.self.nodes.items (c.loop.invariant.0.nodes_are ∙ ap (λ (n : ℕ). map node_in (take n tasks)) all)
+
+pub returns-clause-out : goal.returns-clause-out
+returns-clause-out g c =
+    let board = c.args.board.now in
+    let tasks = c.args.tasks.now.items in
+    let all : c.loop.counter ≡ length (layout_of board.rest.plan).blocks = search rules in
+    tickets_out board tasks c.requires.of _ c.requires.numbers c.loop.self.nodes.items
+    (c.loop.invariant.0.nodes_are ∙ ap (λ (n : ℕ). map node_in (take n tasks)) all)

@@ -26,5 +26,5 @@ loop-left-preserved g c =
       ins = c.act.ensures.ins ∙ i.ins;
       spends = spends_more (makes s.of.value s.number) c.args.left.now left (left - 1) s.node t.node new i.spends
           (spends_did (makes s.of.value s.number) left c.in_ok-act.field-0 t.node new c.loop-left-test.true c.if-not-branch.false
-          (does_so (Ok c.in_ok-act.field-0) t.node new same c.in_ok-act.ensures.does));
+          (does_so c.args.policy.now.in_place (Ok c.in_ok-act.field-0) t.node new same c.in_ok-act.ensures.does));
     }

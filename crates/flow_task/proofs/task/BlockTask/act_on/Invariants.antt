@@ -9,7 +9,7 @@ invariant-loop-left g l = record {
   of : l.self.of.value ≡ l.fn.self.of.value;
   number : l.self.number ≡ l.fn.self.number;
   ins : l.self.ins ≡ l.fn.self.ins;
-  spends : Spends (makes_of g.W.Runs.meaning l.fn.self) l.fn.left l.left l.fn.self.node l.self.node;
+  spends : Spends l.policy.in_place (makes_of g.W.Runs.meaning l.fn.self) l.fn.left l.left l.fn.self.node l.self.node;
 }
 
 abbrev pub decreases-loop-left : goal.decreases-loop-left

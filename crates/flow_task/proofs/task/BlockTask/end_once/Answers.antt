@@ -1,4 +1,4 @@
-use Rattle.std.proofs.Common.{◌≡◌, true, OnOk, subst}
+use Rattle.std.proofs.Common.{◌≡◌, true, OnOk, refl, subst}
 use Rattle.std.proofs.lemmas.Grind.{merely}
 use Rattle.std.proofs.lemmas.Result.{on_ok_weaker}
 use Rattle.flow_link.specs.Planned.{layout_of}
@@ -20,9 +20,9 @@ returns-in-Some-clause-does g c =
     let new = c.finish_job-done.new.self.node in
     let ticket = c.in-Some.ticket in
     let out = subst (λ (b : BlockState). may_end ticket b ≡ true) c.block.ensures c.in-Some.ensures.some in
-    let event : OnOk c.finish_job-done.result (∥ HasEvent makes old new ∥₁) =
-    on_ok_weaker c.finish_job-done.result (λ is. merely (BlockEvent.end_job ticket, record { comes = out; leaves = is })) c.finish_job-done.ensures.ended in
-    undone_does makes c.finish_job-done.result c.left_undone.result old new c.left_undone.ensures.done c.left_undone.ensures.not_done event
+    let event : OnOk c.finish_job-done.result (∥ HasEvent true makes old new ∥₁) =
+    on_ok_weaker c.finish_job-done.result (λ is. merely (BlockEvent.end_job ticket, record { comes = (refl, out); leaves = is })) c.finish_job-done.ensures.ended in
+    undone_does true makes c.finish_job-done.result c.left_undone.result old new c.left_undone.ensures.done c.left_undone.ensures.not_done event
     c.finish_job-done.ensures.kept
 
 pub returns-in-Some-clause-still : goal.returns-in-Some-clause-still

@@ -6,7 +6,7 @@ use Rattle.flow_block.specs.Planned.{block_makes}
 use Rattle.flow_exec.specs.Works.{works_of}
 use Rattle.flow_wire.specs.Ends.{TargetOf}
 use Rattle.flow_task.specs.declared.board.Board.{Board}
-use Rattle.flow_task.proofs.Spends.{both_well, gone_round, spends_more, spends_so}
+use Rattle.flow_task.proofs.Spends.{both_well, gone_round, spends_by, spends_more, spends_so}
 use Rattle.flow_task.proofs.task.BlockTask.go_on_in.Goals as goal
 
 pub returns-then-branch-clause-spends : goal.returns-then-branch-clause-spends
@@ -15,7 +15,8 @@ returns-then-branch-clause-spends g c =
     let t = c.move_ins.new.self in
     let new = c.go_on_own.new.self.node in
     let makes = (λ (board : Board _) (n : ℕ). block_makes (layout_of board.rest.plan) (works_of g.W.Runs.meaning (layout_of board.rest.plan)) n) in
-    spends_more (makes s.of.value s.number) c.args.left.now c.move_ins.new.left c.go_on_own.new.left s.node t.node new c.move_ins.ensures.spends
+    spends_more (makes s.of.value s.number) c.args.left.now c.move_ins.new.left c.go_on_own.new.left s.node t.node new
+    (spends_by c.args.policy.now.in_place c.args.left.now c.move_ins.new.left s.node t.node c.move_ins.ensures.spends)
     (spends_so c.move_ins.new.left c.go_on_own.new.left t.node new (ap₂ makes c.move_ins.ensures.of c.move_ins.ensures.number) c.go_on_own.ensures.spends)
 
 pub returns-then-branch-clause-still : goal.returns-then-branch-clause-still
@@ -31,3 +32,11 @@ returns-then-branch-clause-still g c =
     c.move_ins.ensures.spends c.go_on_own.ensures.spends
     (λ same. c.in_ok-move_ins.ensures.still c.if-branch.true same port place) own outs some as_many)
     c.go_on_own.ensures.own c.go_on_own.ensures.outs
+
+pub returns-clause-spends : goal.returns-clause-spends
+returns-clause-spends g c =
+    spends_by c.args.policy.now.in_place c.args.left.now c.move_ins.new.left c.args.self.now.node c.move_ins.new.self.node c.move_ins.ensures.spends
+
+pub returns-in_err-move_ins-clause-spends : goal.returns-in_err-move_ins-clause-spends
+returns-in_err-move_ins-clause-spends g c =
+    spends_by c.args.policy.now.in_place c.args.left.now c.move_ins.new.left c.args.self.now.node c.move_ins.new.self.node c.move_ins.ensures.spends

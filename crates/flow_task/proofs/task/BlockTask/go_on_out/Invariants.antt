@@ -1,4 +1,4 @@
-use Rattle.std.proofs.Common.{◌≡◌, ℕ, ◌<◌}
+use Rattle.std.proofs.Common.{◌≡◌, ℕ, ◌<◌, false}
 use Rattle.flow_task.specs.Events.{Spends}
 use Rattle.flow_task.specs.Tasks.{makes_of}
 use Rattle.flow_task.specs.Turns.{OutIsStill}
@@ -10,6 +10,6 @@ invariant-loop-place g l = record {
   of : l.self.of.value ≡ l.fn.self.of.value;
   number : l.self.number ≡ l.fn.self.number;
   ins : l.self.ins ≡ l.fn.self.ins;
-  spends : Spends (makes_of g.W.Runs.meaning l.fn.self) l.fn.left l.left l.fn.self.node l.self.node;
+  spends : Spends false (makes_of g.W.Runs.meaning l.fn.self) l.fn.left l.left l.fn.self.node l.self.node;
   still : l.left ≡ l.fn.left → l.first ≡ 0 → (k : ℕ) → k < l.place → OutIsStill k l.fn.self.node l.self.outs.items;
 }

@@ -1,4 +1,4 @@
-use Rattle.std.proofs.Common.{rules, ◌≡◌, true, Bool, Result, Ok, refl, sym, ◌∙◌, subst, arith}
+use Rattle.std.proofs.Common.{rules, ◌≡◌, true, false, Bool, Result, Ok, refl, sym, ◌∙◌, subst, arith}
 use Rattle.std.specs.declared.alloc.AllocError.{AllocError}
 use Rattle.std.proofs.lemmas.Grind.{merely}
 use Rattle.flow_link.specs.declared.phase.Move.{Move}
@@ -48,7 +48,7 @@ returns-then-branch g c =
       of = said.of;
       number = said.number;
       spends = spends_did (makes_of g.W.Runs.meaning s) c.args.left.now c.in_ok-move_in-in-Some.field-0 old new c.requires.left c.if-branch.true
-          (subst (λ (r : Result Bool AllocError). Does (makes_of g.W.Runs.meaning s) r old new) c.in_ok-move_in-in-Some.was does);
+          (subst (λ (r : Result Bool AllocError). Does false (makes_of g.W.Runs.meaning s) r old new) c.in_ok-move_in-in-Some.was does);
       still = λ as_many. absurd (omega (arith, as_many, c.requires.left));
       others = λ as_many. absurd (omega (arith, as_many, c.requires.left));
     }
@@ -74,7 +74,7 @@ returns-else-branch g c =
       of = said.of;
       number = said.number;
       spends = spends_not (makes_of g.W.Runs.meaning s) c.args.left.now c.in_ok-move_in-in-Some.field-0 old new c.if-branch.false
-          (subst (λ (r : Result Bool AllocError). Does (makes_of g.W.Runs.meaning s) r old new) c.in_ok-move_in-in-Some.was does);
+          (subst (λ (r : Result Bool AllocError). Does false (makes_of g.W.Runs.meaning s) r old new) c.in_ok-move_in-in-Some.was does);
       still = λ as_many.
           missed (Ok c.in_ok-move_in-in-Some.field-0) (next_in c.args.port c.args.place old) c.in-Some.next
           (λ (next : Move). may_be_forestalled next (stage_at c.args.place (port_at c.args.port old.block)) ≡ true)

@@ -1,4 +1,4 @@
-use Rattle.std.proofs.Common.{◌≡◌, ℕ, ◌<◌}
+use Rattle.std.proofs.Common.{◌≡◌, ℕ, ◌<◌, false}
 use Rattle.flow_task.specs.Events.{Spends}
 use Rattle.flow_task.specs.Misses.{InsMissStill}
 use Rattle.flow_task.specs.Tasks.{makes_of}
@@ -10,7 +10,7 @@ abbrev pub invariant-loop-place : goal.invariant-loop-place
 invariant-loop-place g l = record {
   of : l.self.of.value ≡ l.fn.self.of.value;
   number : l.self.number ≡ l.fn.self.number;
-  spends : Spends (makes_of g.W.Runs.meaning l.fn.self) l.fn.left l.left l.fn.self.node l.self.node;
+  spends : Spends false (makes_of g.W.Runs.meaning l.fn.self) l.fn.left l.left l.fn.self.node l.self.node;
   still : l.left ≡ l.fn.left → l.first ≡ 0 → (k : ℕ) → k < l.place → InIsStill l.port k l.fn.self.node l.self.ins.items;
   others : l.left ≡ l.fn.left → InsMissStill l.fn.self.ins.items l.self.ins.items;
 }

@@ -1,4 +1,4 @@
-use Rattle.std.proofs.Common.{ℕ, ◌-◌, ◌<◌, Ok, ap, ap₂, sym, subst, arith}
+use Rattle.std.proofs.Common.{ℕ, ◌-◌, ◌<◌, false, Ok, ap, ap₂, sym, subst, arith}
 use Rattle.flow_link.specs.Planned.{layout_of}
 use Rattle.flow_exec.specs.Works.{works_of}
 use Rattle.flow_task.specs.declared.board.Board.{Board}
@@ -38,7 +38,7 @@ returns-then-left-eq0-clause-spends g c =
     let t = c.open.new.self in
     let makes = (λ (board : Board _) (n : ℕ). block_makes (layout_of board.rest.plan) (works_of g.W.Runs.meaning (layout_of board.rest.plan)) n) in
     let here = makes s.of.value s.number in
-    let opens : ∥ HasEvent here s.node t.node ∥₁ =
+    let opens : ∥ HasEvent false here s.node t.node ∥₁ =
     merely (
       BlockEvent.move_in c.args.port c.args.place Open,
       record {
@@ -54,7 +54,7 @@ returns-in_err-try_in-clause-spends g c =
     let t = c.open.new.self in
     let makes = (λ (board : Board _) (n : ℕ). block_makes (layout_of board.rest.plan) (works_of g.W.Runs.meaning (layout_of board.rest.plan)) n) in
     let here = makes s.of.value s.number in
-    let opens : ∥ HasEvent here s.node t.node ∥₁ =
+    let opens : ∥ HasEvent false here s.node t.node ∥₁ =
     merely (
       BlockEvent.move_in c.args.port c.args.place Open,
       record {
@@ -73,7 +73,7 @@ returns-then-branch-clause-spends g c =
     let t = c.open.new.self in
     let makes = (λ (board : Board _) (n : ℕ). block_makes (layout_of board.rest.plan) (works_of g.W.Runs.meaning (layout_of board.rest.plan)) n) in
     let here = makes s.of.value s.number in
-    let opens : ∥ HasEvent here s.node t.node ∥₁ =
+    let opens : ∥ HasEvent false here s.node t.node ∥₁ =
     merely (
       BlockEvent.move_in c.args.port c.args.place Open,
       record {
@@ -87,7 +87,7 @@ returns-then-branch-clause-spends g c =
     let same = ap₂ makes c.open.ensures.of c.open.ensures.number in
     spends_more here left (left - 1) (left - 1 - 1) s.node t.node new one
     (spends_did here (left - 1) c.in_ok-try_in.field-0 t.node new (omega (arith, c.if-left-eq0.false)) c.if-branch.true
-    (does_so (Ok c.in_ok-try_in.field-0) t.node new same c.in_ok-try_in.ensures.does))
+    (does_so false (Ok c.in_ok-try_in.field-0) t.node new same c.in_ok-try_in.ensures.does))
 
 pub returns-else-branch-clause-spends : goal.returns-else-branch-clause-spends
 returns-else-branch-clause-spends g c =
@@ -95,7 +95,7 @@ returns-else-branch-clause-spends g c =
     let t = c.open.new.self in
     let makes = (λ (board : Board _) (n : ℕ). block_makes (layout_of board.rest.plan) (works_of g.W.Runs.meaning (layout_of board.rest.plan)) n) in
     let here = makes s.of.value s.number in
-    let opens : ∥ HasEvent here s.node t.node ∥₁ =
+    let opens : ∥ HasEvent false here s.node t.node ∥₁ =
     merely (
       BlockEvent.move_in c.args.port c.args.place Open,
       record {
@@ -109,4 +109,4 @@ returns-else-branch-clause-spends g c =
     let same = ap₂ makes c.open.ensures.of c.open.ensures.number in
     spends_more here left (left - 1) (left - 1) s.node t.node new one
     (spends_not here (left - 1) c.in_ok-try_in.field-0 t.node new c.if-branch.false
-    (does_so (Ok c.in_ok-try_in.field-0) t.node new same c.in_ok-try_in.ensures.does))
+    (does_so false (Ok c.in_ok-try_in.field-0) t.node new same c.in_ok-try_in.ensures.does))

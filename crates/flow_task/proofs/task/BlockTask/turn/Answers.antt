@@ -40,10 +40,10 @@ returns-in-Ok-clause-happens g c =
     (ap₂ makes (c.look_outs.ensures.of ∙ c.look_ins.ensures.of) (c.look_outs.ensures.number ∙ c.look_ins.ensures.number)) c.go_round.ensures.spends in
     let end = c.end_turn.new.self.node in
     let left = c.args.budget - c.go_round.new.left in
-    let done = subst (λ (node : NodeState). ∥ TurnsBy AllLook (HasEvent here) left s.node node ∥₁) (sym c.end_turn.ensures.node)
+    let done = subst (λ (node : NodeState). ∥ TurnsBy AllLook (HasEvent c.args.policy.now.in_place here) left s.node node ∥₁) (sym c.end_turn.ensures.node)
     (turn_happens here c.args.budget c.go_round.new.left s.node t.node new looked spent) in
-    IfOk-weaker c.end_turn.result (λ turned. turned.events ≡ left) (λ turned. ∥ TurnsBy AllLook (HasEvent here) turned.events s.node end ∥₁)
-    (λ turned is. subst (λ (n : ℕ). ∥ TurnsBy AllLook (HasEvent here) n s.node end ∥₁) (sym is) done)
+    IfOk-weaker c.end_turn.result (λ turned. turned.events ≡ left) (λ turned. ∥ TurnsBy AllLook (HasEvent c.args.policy.now.in_place here) turned.events s.node end ∥₁)
+    (λ turned is. subst (λ (n : ℕ). ∥ TurnsBy AllLook (HasEvent c.args.policy.now.in_place here) n s.node end ∥₁) (sym is) done)
     c.end_turn.ensures.events
 
 pub returns-else-left-budget-clause-happens : goal.returns-else-left-budget-clause-happens
@@ -60,7 +60,7 @@ returns-else-left-budget-clause-happens g c =
     let here = makes s.of.value s.number in
     let spent = spends_so c.args.budget c.go_round.new.left t.node new
     (ap₂ makes (c.look_outs.ensures.of ∙ c.look_ins.ensures.of) (c.look_outs.ensures.number ∙ c.look_ins.ensures.number)) c.go_round.ensures.spends in
-    subst (λ (n : ℕ). ∥ TurnsBy AllLook (HasEvent here) n s.node new ∥₁) (sym c.turned.ensures.events)
+    subst (λ (n : ℕ). ∥ TurnsBy AllLook (HasEvent c.args.policy.now.in_place here) n s.node new ∥₁) (sym c.turned.ensures.events)
     (turn_happens here c.args.budget c.go_round.new.left s.node t.node new looked spent)
 
 pub returns-in-Ok-clause-looked : goal.returns-in-Ok-clause-looked
