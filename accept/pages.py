@@ -18,17 +18,17 @@ LINK = re.compile(r"\[[^\]]*\]\(([^()\s]+)\)")
 HEADING = re.compile(r"^#+ +(.*?) *$", re.M)
 
 # A name in ticks, and what it has to be the name of. A path is a file's, or, up to its first blank, that of a command.
-CRATE = re.compile(r"(?:flow|example)_[a-z_]+")
+CRATE = re.compile(r"(?:flow|example)_[a-z_]+|bevelrose(?:_c)?")
 PATH = re.compile(r"((?:\.ci|crates|docs|bin|bench|examples)/[\w./-]+)(?: .*)?")
 SOURCE = re.compile(r"[\w/]+\.(?:rt|antt)")
-ITEM = re.compile(r"((?:flow|example)_[a-z_]+)::(\w+)(?:\(.*)?")
+ITEM = re.compile(r"((?:flow|example)_[a-z_]+|bevelrose(?:_c)?)::(\w+)(?:\(.*)?")
 
 # A word of a path that stands for others, as in crates/NAME/audit/.
 STANDS_FOR_OTHERS = re.compile(r"(?:^|/)[A-Z]+(?:/|$)")
 
 # In a block of Rattle, what is used of a crate, and what is used of a crate's definitions.
-USE = re.compile(r"^use ((?:flow|example)_[a-z_]+)::(?:(\w+)|\{([^}]*)\});", re.M)
-GHOST_USE = re.compile(r"^(?:ghost )?use Rattle\.((?:flow|example)_[a-z_]+)\.specs\.([\w.]+)\.\{([^}]*)\}", re.M)
+USE = re.compile(r"^use ((?:flow|example)_[a-z_]+|bevelrose(?:_c)?)::(?:(\w+)|\{([^}]*)\});", re.M)
+GHOST_USE = re.compile(r"^(?:ghost )?use Rattle\.((?:flow|example)_[a-z_]+|bevelrose(?:_c)?)\.specs\.([\w.]+)\.\{([^}]*)\}", re.M)
 
 # A contract that a caller's page shows, by the function's name.
 SHOWN_FUNCTION = re.compile(r"^fn (?:\w+::)?(\w+)", re.M)

@@ -4,10 +4,7 @@ use Rattle.std.specs.Int.{int_min}
 use Rattle.std.specs.Ordering.{int_eq}
 use Rattle.std.proofs.Common.{ap}
 use Rattle.std.proofs.lemmas.Bool.Decides.{Decides-int_eq}
-use Rattle.flow_value.specs.declared.value.Value.{Value}
-use Rattle.flow_value.specs.declared.value.Value.TheVariants.{Int, Text, Row}
-use Rattle.flow_value.specs.declared.work.WorkFault.{WorkFault}
-use Rattle.flow_value.specs.declared.work.WorkFault.TheVariants.{NotInt, Memory}
+use Rattle.bevelrose.specs.Work.{Value, Int, Text, Row, WorkFault, NotInt, Memory}
 use Rattle.examples.specs.declared.work.cap.Cap.{Cap}
 
 abbrev pub capped : Cap → Value → Result (List Value) WorkFault

@@ -19,15 +19,12 @@ ghost use Rattle.flow_board.specs.Parts.{AllEntriesOf, AllExitsOf, AllTasksOf, e
 
 use crate::shop::shop;
 use anyhow::{Result, bail};
+use bevelrose::{Ending, Received, Sent, Steps, Text, Value, state_of};
 use flow_board::{
     Board, Entry, Exit, OpenGate, Parts, Task, boards_are_shared, entries_cross, exits_cross,
     gather, scatter, tasks_cross,
 };
 use flow_crew::turn_round;
-use flow_front::state_of;
-use flow_link::Ending;
-use flow_poll::{Received, Sent};
-use flow_value::{Steps, Text, Value};
 use std::alloc::Global;
 use std::mem::replace;
 use std::sync::Wait;

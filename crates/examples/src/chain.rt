@@ -1,9 +1,7 @@
 //! Texts go in, a transform reads them as numbers, and an action keeps them in cents.
 
 use anyhow::Result;
-use flow_front::{Inputs, record_of};
-use flow_link::{BlockDef, BlockKind, Draft, LinkDef};
-use flow_value::{Steps, Text, Value};
+use bevelrose::{BlockDef, BlockKind, Draft, Inputs, LinkDef, Steps, Text, Value, record_of};
 
 pub(crate) fn main(rt: HostRuntime) -> Result<()> {
     let alloc = rt.alloc();

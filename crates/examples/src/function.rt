@@ -1,7 +1,7 @@
 //! Shows a function as a network names it: read from its steps, and applied to values.
 
 use anyhow::{Result, anyhow};
-use flow_value::{Row, Steps, Text, Value, Work};
+use bevelrose::{Row, Steps, Text, Value, Work};
 use std::alloc::{AllocError, Global};
 
 pub(crate) fn main(rt: HostRuntime) -> Result<()> {

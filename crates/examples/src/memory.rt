@@ -1,15 +1,13 @@
 //! Two threads run a network. Where memory is refused, what there is of it comes back, and they go on from there: no order is lost, and
 //! none is counted twice. In .NET an OutOfMemoryException faults a block, or ends the process.
 
-ghost use Rattle.flow_board.specs.Parts.{AllEntriesOf, AllExitsOf, AllTasksOf};
+ghost use Rattle.bevelrose.specs.Parts.{AllEntriesOf, AllExitsOf, AllTasksOf};
 
 use anyhow::{Result, anyhow, bail};
-use flow_board::{OpenGate, Parts, gather};
-use flow_crew::{RunFault, run_workers};
-use flow_front::{Inputs, record_of};
-use flow_link::{BlockDef, BlockKind, Draft, LinkDef};
-use flow_net::Net;
-use flow_value::{Steps, Value};
+use bevelrose::{
+    BlockDef, BlockKind, Draft, Inputs, LinkDef, Net, OpenGate, Parts, RunFault, Steps, Value,
+    gather, record_of, run_workers,
+};
 use std::alloc::Global;
 use std::sync::Wait;
 use std::thread::Threads;

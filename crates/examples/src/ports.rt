@@ -13,10 +13,9 @@
 
 use crate::shop::shop;
 use anyhow::{Result, anyhow};
-use flow_link::Ending;
-use flow_net::{Net, NetEntry, NetExit};
-use flow_poll::{ReceivePort, Received, SendPort, Sent};
-use flow_value::{Steps, Text, Value};
+use bevelrose::{
+    Ending, Net, NetEntry, NetExit, ReceivePort, Received, SendPort, Sent, Steps, Text, Value,
+};
 use std::alloc::Global;
 
 /// The most events between two looks.

@@ -1,10 +1,7 @@
 //! The network that some of the examples feed while it runs.
 
 use anyhow::Result;
-use flow_front::Inputs;
-use flow_link::{BlockDef, BlockKind, Draft, Ending, LinkDef};
-use flow_net::Net;
-use flow_value::Steps;
+use bevelrose::{BlockDef, BlockKind, Draft, Ending, Inputs, LinkDef, Net, Steps};
 use std::alloc::Global;
 
 /// Reads prices as numbers, room for two at a time, and makes cents of them.

@@ -3,10 +3,8 @@
 mod cap;
 
 use anyhow::Result;
+use bevelrose::{BlockDef, BlockKind, Draft, Inputs, LinkDef, Value, record_of, state_of};
 use cap::Cap;
-use flow_front::{Inputs, record_of, state_of};
-use flow_link::{BlockDef, BlockKind, Draft, LinkDef};
-use flow_value::Value;
 
 pub(crate) fn main(rt: HostRuntime) -> Result<()> {
     let alloc = rt.alloc();

@@ -2,10 +2,7 @@
 
 use crate::bench::timed::Timed;
 use anyhow::Result;
-use flow_front::{Inputs, record_of};
-use flow_link::{BlockDef, BlockKind, Draft, LinkDef};
-use flow_net::Net;
-use flow_value::{Steps, Value};
+use bevelrose::{BlockDef, BlockKind, Draft, Inputs, LinkDef, Net, Steps, Value, record_of};
 use std::alloc::Global;
 use std::time::{Clock, Instant};
 

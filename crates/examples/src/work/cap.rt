@@ -1,7 +1,7 @@
 //! A work of one's own: it charges no more than a cap.
 ghost use Rattle.examples.specs.Cap.{capped, capped-same, capped-never};
 
-use flow_value::{Value, Work, WorkFault};
+use bevelrose::{Value, Work, WorkFault};
 use std::alloc::{AllocError, Global};
 
 /// The most cents that are charged: a greater charge becomes this one.

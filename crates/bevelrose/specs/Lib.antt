@@ -1,0 +1,2 @@
+pub mod Work
+pub use Rattle.flow_board.specs.Parts

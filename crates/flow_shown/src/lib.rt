@@ -1,0 +1,10 @@
+//! Values shown to people as a report prints them: numbers in decimal, texts between double quotes, rows between brackets.
+//!
+//! ```
+//! println!(rt; "{}", shown(&value))?;
+//! ```
+#![tactic(auto)]
+
+mod in_report;
+
+pub use in_report::{InReport, shown};
