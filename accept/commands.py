@@ -53,6 +53,7 @@ FORM = """printf 'format = 1\\nblock = []\\n[[link]]\\nform = "a"\\nto = "b"\\n'
 # Of each command of `flow` a call that does what it is for, and one that is refused.
 FLOW = [
     Case("bin/flow --help", 0, None),
+    Case("test $(bin/flow_run --version | cut -d , -f 1 | cut -d ' ' -f 2) = $(bin/flow --version | cut -d ' ' -f 2)", 0),
     Case(
         "bin/flow check examples/import.toml examples/import.csv",
         0,
@@ -172,7 +173,7 @@ UNBUILT = [
     Case("bin/flow_run -h", 0, USAGE),
     Case("bin/flow_run examples/import.toml 0", 2, "", USAGE),
     Case("bin/flow_run a b c d", 2, "", USAGE),
-    Case("bin/flow_run --version", 0, "flow_run of Bevelrose, not built yet"),
+    Case("bin/flow_run --version", 0, None),
     Case("test -e out", 1),
     Case("bin/flow_run --help >&-", 5, "", "flow_run: "),
     Case("bin/flow_run --version >&-", 5, "", "flow_run: "),

@@ -13,13 +13,23 @@ from accept.pages import Tree, broken_links
 from accept.shell import run
 from accept.tally import first_difference
 
-VERSION = "0.0.1"
-ARCHIVE = f"bevelrose-{VERSION}-x86_64-linux.tar.gz"
-DEBIAN = f"bevelrose_{VERSION}_amd64.deb"
 DOCS = "usr/share/doc/bevelrose"
 
-# The same call where names are sorted otherwise, new files are for nobody else, and the clock shows another hour.
-ELSEWHERE = f"umask 077; TZ=Asia/Tokyo LC_ALL=C.UTF-8 LANG=C.UTF-8 bin/package {VERSION}"
+# Another place, in which names are sorted otherwise, new files are for nobody else, and the clock shows another hour.
+ELSEWHERE = "umask 077; export TZ=Asia/Tokyo LC_ALL=C.UTF-8 LANG=C.UTF-8; "
+
+
+def version_of(copy):
+    """The version that the program flow tells."""
+    return re.search(r'^const VERSION: &str = "(.*)";$', text_of(copy, "crates/flow_tool/src/command.rt"), re.M).group(1)
+
+
+def archive_of(copy):
+    return f"bevelrose-{version_of(copy)}-x86_64-linux.tar.gz"
+
+
+def debian_of(copy):
+    return f"bevelrose_{version_of(copy)}_amd64.deb"
 
 
 def what_lacks():
@@ -65,13 +75,17 @@ def in_root(root):
 
 def make(part, copy, room):
     """Makes the packages twice, and answers whether they are there."""
-    first = run(f"bin/package {VERSION}", copy)
-    part.compare(f"bin/package {VERSION}", ("status", 0, first.status), ("standard error", "", first.err))
+    command = f"bin/package {version_of(copy)}"
+    first = run(command, copy)
+    part.compare(command, ("status", 0, first.status), ("standard error", "", first.err))
+    command = f"bin/package {version_of(copy)}.1"
+    ended = run(command, copy)
+    part.compare(command, ("status", 1, ended.status), ("output", "", ended.out))
     other = os.path.join(room, "another place", "for it")
     shutil.copytree(copy, other, symlinks=True)
-    again = run(ELSEWHERE, other)
-    part.compare(f"{ELSEWHERE}, elsewhere", ("output", first.out, again.out))
-    made = [os.path.join("out", name) for name in (ARCHIVE, DEBIAN)]
+    command = f"{ELSEWHERE}bin/package {version_of(copy)}"
+    part.compare(f"{command}, elsewhere", ("output", first.out, run(command, other).out))
+    made = [os.path.join("out", name) for name in (archive_of(copy), debian_of(copy))]
     are_there = all(os.path.exists(os.path.join(place, name)) for name in made for place in (copy, other))
     for name in made if are_there else []:
         same = filecmp.cmp(os.path.join(copy, name), os.path.join(other, name), shallow=False)
@@ -95,7 +109,7 @@ def install(part, copy, room):
     root = os.path.join(room, "installed")
     os.makedirs(root)
     needed = put_libraries(root, copy)
-    ended = run(call_dpkg(root, f"--install out/{DEBIAN}"), copy)
+    ended = run(call_dpkg(root, f"--install out/{debian_of(copy)}"), copy)
     part.compare("dpkg --install", ("status", 0, ended.status))
     for name in names_of(copy):
         run_example(part, copy, root, name)
@@ -118,9 +132,10 @@ def run_example(part, copy, root, name):
 
 def unpack(part, copy, room):
     """Unpacks the archive, and makes each call of the page of examples in its folder, which is the root."""
-    with tarfile.open(os.path.join(copy, "out", ARCHIVE)) as archive:
+    name = archive_of(copy)
+    with tarfile.open(os.path.join(copy, "out", name)) as archive:
         archive.extractall(room)
-    root = os.path.join(room, ARCHIVE[: -len(".tar.gz")])
+    root = os.path.join(room, name[: -len(".tar.gz")])
     links(part, root)
     put_libraries(root, copy)
     begin = in_root(".")

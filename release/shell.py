@@ -32,9 +32,9 @@ def builder(tool, script):
     return os.fsdecode(done.stdout)
 
 
-def help_of(path, *words):
-    """The help that a program prints."""
-    told = subprocess.run([path, *words, "--help"], env={}, stdin=subprocess.DEVNULL, stdout=subprocess.PIPE)
+def told_by(path, *words):
+    """What a program prints."""
+    told = subprocess.run([path, *words], env={}, stdin=subprocess.DEVNULL, stdout=subprocess.PIPE)
     if told.returncode != 0 or not told.stdout:
-        raise Stop(f"{path} prints no help")
+        raise Stop(f"{' '.join([path, *words])} prints nothing")
     return told.stdout.decode()

@@ -4,7 +4,7 @@ import os
 import re
 from typing import List, NamedTuple
 
-from release.shell import TOP, help_of
+from release.shell import TOP, Stop, told_by
 
 # What the help of bin/flow_run says of a checkout alone.
 OF_CHECKOUT = "in a checkout"
@@ -20,6 +20,13 @@ class Section(NamedTuple):
 
     head: str
     lines: List[str]
+
+
+def check_version(version, flow):
+    """Stops where the program flow, at this path, says that it is of another version."""
+    told = told_by(flow, "--version").split()[-1]
+    if re.split("[+~]", version)[0] != told:
+        raise Stop(f"the program flow says that it is {told}; crates/flow_tool/src/command.rt has its version")
 
 
 def sections(text):
@@ -85,7 +92,7 @@ def manual(name, version, about, body, other):
 
 def program_help():
     """The help of bin/flow_run, as far as it holds for the program."""
-    text = help_of(os.path.join(TOP, "bin", "flow_run"))
+    text = told_by(os.path.join(TOP, "bin", "flow_run"), "--help")
     return text.split(f"\n{OF_CHECKOUT}:\n")[0].replace("bin/flow", "flow")
 
 
@@ -106,8 +113,8 @@ def commands_of(text):
 
 def flow_helps(path):
     """The help of flow, and of each of its commands."""
-    first = help_of(path).replace("bin/flow", "flow")
-    return first, {name: help_of(path, name).replace("bin/flow", "flow") for name, _ in commands_of(first)}
+    first = told_by(path, "--help")
+    return first, {name: told_by(path, name, "--help") for name, _ in commands_of(first)}
 
 
 def manual_of_flow(version, path):

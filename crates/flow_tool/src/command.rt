@@ -4,6 +4,9 @@ use std::alloc::{AllocError, Global};
 
 const ABOUT: &str = "What is beside a run of flow_run, before it and after it.";
 
+/// The version of both programs, `flow` and `flow_run`.
+const VERSION: &str = "0.1.0";
+
 const STATUSES: &str = "\
 status:
   0     all is well
@@ -73,7 +76,7 @@ Of a network that is accepted it tells what surely leads to status 1 or never do
 network or a record is refused.
 
 example:
-  bin/flow check network.toml records.csv",
+  flow check network.toml records.csv",
     arguments: &[
         NETWORK,
         argument!(
@@ -96,8 +99,8 @@ const DRAW: Entry = Entry {
 With a report it tells what crossed each link, what is held and left, and how each block ended.
 
 example:
-  bin/flow draw network.toml run.report
-  bin/flow draw --dot network.toml | dot -Tsvg > network.svg",
+  flow draw network.toml run.report
+  flow draw --dot network.toml | dot -Tsvg > network.svg",
     arguments: &[
         NETWORK,
         argument!(
@@ -116,7 +119,7 @@ const WHY: Entry = Entry {
 The status is that of the run.
 
 example:
-  bin/flow why network.toml run.report",
+  flow why network.toml run.report",
     arguments: &[NETWORK, REPORT],
 };
 
@@ -125,8 +128,8 @@ const RESULTS: Entry = Entry {
     about: "Prints what actions recorded",
     below: "\
 example:
-  bin/flow results run.report ledger > ledger.csv
-  bin/flow_run network.toml 1 < records.csv | bin/flow results --jsonl -",
+  flow results run.report ledger > ledger.csv
+  flow_run network.toml 1 < records.csv | flow results --jsonl -",
     arguments: &[
         REPORT,
         argument!(
@@ -155,7 +158,7 @@ const TRACE: Entry = Entry {
 VALUE is as the report prints it, or a text without its quotes. The status is 1 where it is nowhere.
 
 example:
-  bin/flow trace run.report seven",
+  flow trace run.report seven",
     arguments: &[
         REPORT,
         argument!("value", Form::Needed("VALUE"), "The value"),
@@ -169,7 +172,7 @@ const SIFT: Entry = Entry {
 A record faults where it can't be read, or where a block faults when the record is run alone. The status is 1 where one did.
 
 example:
-  bin/flow sift network.toml < records.csv > good.csv 2> bad.txt",
+  flow sift network.toml < records.csv > good.csv 2> bad.txt",
     arguments: &[NETWORK],
 };
 
@@ -182,7 +185,7 @@ already is refused, and nothing is written then. A cut is never in a quoted line
 `key,input,value`, and the parts have `input,value`.
 
 example:
-  bin/flow split 8 records.csv",
+  flow split 8 records.csv",
     arguments: &[
         argument!("parts", Form::Parts("PARTS"), "How many parts, 1 to 1000"),
         argument!(
@@ -216,7 +219,7 @@ Reports are merged of networks of buffers, actions, transforms, transform_manys 
 status 0. The status is the worst of the parts', or 2 where they can't be merged though each has 0.
 
 example:
-  bin/flow merge network.toml records.csv.*.report > whole.report",
+  flow merge network.toml records.csv.*.report > whole.report",
     arguments: &[
         NETWORK,
         argument!(
@@ -231,6 +234,7 @@ example:
 pub fn command_line<'a>(alloc: Global) -> Result<Command<'a>, AllocError> {
     let mut line = Command::new(alloc, "flow")
         .bin_name("flow")?
+        .version(VERSION)
         .about(ABOUT)
         .after_help(STATUSES)
         .disable_help_subcommand(true)
