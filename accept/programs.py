@@ -1,10 +1,14 @@
-"""A program of one's own: the folder that bin/new_program makes. It is not proved."""
+"""A program of one's own: the folder that bin/new_program makes, and the samples of docs/from-tpl-dataflow.md, which stand in such a
+folder as one program. Neither is proved."""
 
 import os
+import re
 
-from accept.examples import text_of
+from accept.examples import STATUS, compare_report, text_of
 from accept.shell import path_without, run
 from accept.tally import first_difference
+
+PAGE = "docs/from-tpl-dataflow.md"
 
 # How long a build without proof may take.
 SECONDS = 1800
@@ -24,6 +28,15 @@ REFUSED = [
     ("bin/new_program ../nowhere/folder", 1, "new_program: ../nowhere: there is no such folder\n"),
     ("bin/new_program inside", 2, INSIDE),
 ]
+
+SECTION = re.compile(r"^## (.*?)$", re.M)
+FENCE = re.compile(r"^```(\w+)\n(.*?)^```$", re.M | re.S)
+
+# A function of the page, which is given the runtime of `main`, or borrows it.
+FUNCTION = re.compile(r"^fn (\w+)(?:<[^>]*>)?\(\s*rt: (&?)\w+,?\s*\)", re.M)
+
+# Where the page says so, a network is run with so many workers too.
+SEVERAL = "with 4 workers as with 1"
 
 
 def compare_call(part, command, folder, status, out, err="", seconds=SECONDS):
@@ -68,3 +81,79 @@ def run_all(part, copy, room, logs):
     part.compare("the holes of the meaning", ("count", 3, holes))
     shown = f"`{printed.rstrip()}`" in text_of(folder, "README.md")
     part.count(shown, "its README.md shows what it prints")
+
+
+def sections_of(page):
+    """Of each section that has blocks of code its heading, its text, and the blocks by their languages."""
+    parts = SECTION.split(page)
+    for heading, text in zip(parts[1::2], parts[2::2]):
+        blocks = {}
+        for language, code in FENCE.findall(text):
+            blocks.setdefault(language, []).append(code)
+        if blocks:
+            yield heading, text, blocks
+
+
+def run_networks(part, copy, room):
+    """Runs each network of the page over the records beside it."""
+    folder = os.path.join(room, "samples")
+    os.mkdir(folder)
+    for heading, text, blocks in sections_of(text_of(copy, PAGE)):
+        if "toml" not in blocks:
+            continue
+        name = re.sub(r"\W+", "_", heading.lower())
+        for end in ("toml", "csv"):
+            with open(os.path.join(folder, f"{name}.{end}"), "w", encoding="utf-8") as file:
+                file.write("".join(blocks.get(end, [])))
+        status = STATUS.search(text)
+        wanted = "".join(blocks.get("report", [])) or None, int(status.group(1)) if status else None
+        for workers in (1, 4) if SEVERAL in text else (1,):
+            command = f"bin/flow_run ../samples/{name}.toml {workers} < ../samples/{name}.csv"
+            compare_report(part, command, wanted, run(command, copy))
+
+
+def program_of(page):
+    """The functions of the page as one program, which prints the name of each before what that prints, and what it is to print."""
+    code, calls, printed = [], [], []
+    for _, _, blocks in sections_of(page):
+        code += blocks.get("rust", [])
+        for name, borrows in FUNCTION.findall("".join(blocks.get("rust", []))):
+            calls.append(f'    println!(rt; "== {name}")?;\n    {name}({borrows}rt)?;\n')
+            printed += [f"== {name}\n", *blocks.get("output", [])]
+    body = f"\nfn main(rt: HostRuntime) -> Result<()> {{\n{''.join(calls)}    Ok(())\n}}\n"
+    return "\n".join(code) + body, "".join(printed)
+
+
+def run_program(part, copy, room, logs):
+    """Tries the functions of the page in a folder that bin/new_program makes."""
+    ended = run("bin/new_program ../samples_program", copy)
+    crate = os.path.join(room, "samples_program", "crates", "program")
+    if not os.path.isdir(crate):
+        part.count(False, "bin/new_program ../samples_program", [ended.err])
+        return
+    code, printed = program_of(text_of(copy, PAGE))
+    os.remove(os.path.join(crate, "src", "least.rt"))
+    with open(os.path.join(crate, "src", "main.rt"), "w", encoding="utf-8") as file:
+        file.write(code)
+    keep_log(logs, "samples", try_program(part, crate, printed))
+
+
+def try_program(part, crate, printed):
+    """Tries the program, and compares what each function prints."""
+    ended = run("rt try", crate, SECONDS)
+    part.compare(f"the functions of {PAGE}: rt try", ("status", 0, ended.status))
+    came = pieces_of(ended.out)
+    for name, wanted in pieces_of(printed).items():
+        part.compare(f"{PAGE}: {name}", ("output", wanted, came.get(name)))
+    return ended
+
+
+def pieces_of(printed):
+    """What is printed behind each name."""
+    parts = re.split(r"^== (\w+)\n", printed, flags=re.M)
+    return dict(zip(parts[1::2], parts[2::2]))
+
+
+def run_samples(part, copy, room, logs):
+    run_networks(part, copy, room)
+    run_program(part, copy, room, logs)
