@@ -3,7 +3,8 @@
 use crate::networks::{ONCE, READER, buffer_parts, gathered, watched};
 use crate::ports::{entry_alone, look, only_entry};
 use flow_board::Parts;
-use flow_link::{Ending, Outcome};
+use flow_link::{Ending, Mark, Outcome, Phase};
+use flow_net::Settled;
 use flow_poll::{SendFault, Sent};
 use flow_value::{Text, Value};
 
@@ -54,6 +55,31 @@ fn an_entry_is_busy_while_a_value_is_under_way(rt: HostRuntime) {
     assert!(rt; matches!(sent, Sent::Accepted));
     assert!(rt; matches!(entry.accepted(), [Value::Int(1)]));
     assert!(rt; entry.finish(&board, Ending::Complete).is_ok());
+}
+
+// Its link is in a phase that no turn of a task brings about.
+#[test]
+fn a_value_that_is_posted_when_it_is_gathered_is_taken(rt: HostRuntime) {
+    let alloc = rt.alloc();
+    let Parts {
+        board,
+        tasks,
+        entries,
+        exits,
+    } = buffer_parts(&rt, alloc, "b?");
+    let mut entry = only_entry(&rt, &board, entries);
+    assert!(rt; entry.begin_post(alloc, &board, Value::Int(7)).is_ok());
+    let parts = Parts {
+        entries: entry_alone(&rt, alloc, &board, entry),
+        board,
+        tasks,
+        exits,
+    };
+    let mut net = gathered(&rt, alloc, parts);
+    assert!(rt; net.plan().link_count() == 2 && matches!(net.phase(0), Phase::Posted(_)));
+    assert!(rt; net.settle(alloc, 1_000) == Ok(Settled::Quiet));
+    assert!(rt; net.plan().block_count() == 1);
+    assert!(rt; matches!(net.journal(0).first(), Some(Mark::Took(..))));
 }
 
 #[test]

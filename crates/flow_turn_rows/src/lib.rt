@@ -32,6 +32,8 @@ mod overlap;
 #[cfg(test)]
 mod paced;
 #[cfg(test)]
+mod phases;
+#[cfg(test)]
 mod rounds;
 #[cfg(test)]
 mod sends;

@@ -93,3 +93,23 @@ pub(crate) fn turn_singly(
     }
     Ok(())
 }
+
+/// Turns one of these tasks after another, round and round, so many times in all, and lets each do one event.
+pub(crate) fn turn_chosen(
+    alloc: Global,
+    board: &Board<Steps>,
+    tasks: &mut Vec<Task<Steps>>,
+    chosen: &[usize],
+    turns: usize,
+) -> Result<(), AllocError>
+    requires of { AllTasksOf board.now tasks.old.items }
+    ensures of { AllTasksOf board.now tasks.new.items }
+{
+    for turn in 0..turns {
+        let Some(step) = turn.checked_rem(chosen.len()) else {
+            return Ok(());
+        };
+        turn_next(alloc, board, tasks, chosen[step])?;
+    }
+    Ok(())
+}

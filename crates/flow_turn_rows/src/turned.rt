@@ -2,7 +2,7 @@
 ghost use Rattle.flow_board.specs.Parts.{AllTasksOf};
 
 use crate::halves::turn_by_two;
-use crate::rounds::{Pace, turn_in_rounds, turn_singly};
+use crate::rounds::{Pace, turn_chosen, turn_in_rounds, turn_singly};
 use flow_board::{Board, Parts, Scattered, Task, gather, scatter};
 use flow_net::Net;
 use flow_value::Steps;
@@ -17,6 +17,8 @@ pub(crate) enum Way {
     Alone(u32),
     /// By one thread, one task after another and one event each, so many times in all.
     Singly(usize),
+    /// By one thread, of these tasks one after another and one event each, so many times in all.
+    Chosen(&'static [usize], usize),
     /// By two threads in rounds, with this budget, until none moves.
     Both(u32),
     /// By two threads in so many rounds, one event each; both meet before each round.
@@ -53,6 +55,10 @@ fn turn_all(
         }
         Way::Singly(turns) => {
             assert!(rt; turn_singly(alloc, board, &mut tasks, turns).is_ok());
+            tasks
+        }
+        Way::Chosen(chosen, turns) => {
+            assert!(rt; turn_chosen(alloc, board, &mut tasks, chosen, turns).is_ok());
             tasks
         }
         Way::Both(budget) => {
