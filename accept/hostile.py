@@ -18,6 +18,15 @@ MOST = 20_000
 # What the program says where a call of a kind fails that it can't go on without.
 TOLD = {"growth": (4, "flow_run: memory\n"), "read": (5, "flow_run: 12 Read\n"), "write": (5, "flow_run: 13 Write\n")}
 
+# Calls of flow that print something, and what it says where that fails.
+FLOW = (
+    "check examples/import.toml",
+    "draw examples/import.toml",
+    "results examples/batches.report",
+    "why examples/batches.toml examples/batches.report",
+)
+UNPRINTED = (5, "flow: standard output failed\n")
+
 # The lines of the example that say in which way memory was refused to its crew.
 WAYS = {"refused: the network came back", "refused: its parts came back"}
 
@@ -68,8 +77,19 @@ def fail_each(part, copy, name, workers, kind):
     part.count(not wrong and has_failed == (kind in TOLD), f"{command}, {kind}", wrong)
 
 
+def fail_flow(part, copy, words):
+    """Where a write of a command fails, that is told, and nothing goes out after it."""
+    command = f"out/flow.unproved {words}"
+    whole, has_failed, wrong = run(command, copy).out, False, []
+    for number, ended in each_failing(copy, "write", command):
+        is_cut = whole.startswith(ended.out) and ended.out != whole
+        has_failed = True
+        wrong += [] if is_cut and (ended.status, ended.err) == UNPRINTED else shown(number, ended)
+    part.count(not wrong and has_failed, f"{command}, write", wrong)
+
+
 def fail_all(part, copy):
-    """Refuses memory to the examples, with one worker and with several, and has their streams fail."""
+    """Refuses memory to the examples, with one worker and with several, and has their streams fail, and writes of flow."""
     if not build_failing(part, copy):
         return
     for name in names_of(copy):
@@ -77,6 +97,8 @@ def fail_all(part, copy):
             fail_each(part, copy, name, ALONE, kind)
         if name not in OPEN:
             fail_each(part, copy, name, SEVERAL, "growth")
+    for words in FLOW:
+        fail_flow(part, copy, words)
 
 
 def build_examples(part, copy, logs):
