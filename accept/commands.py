@@ -182,10 +182,23 @@ UNBUILT = [
     Case("bin/audit nobody", 2, "", "audit: nobody is no crate with edits"),
     Case("bin/audit --help >&-", 5, "", "audit: "),
     Case(f"bin/audit --help > {FULL}", 5, "", "audit: "),
-    Case("bin/package --help", 0, "usage: bin/package VERSION"),
+    Case("bin/package --help", 0, "usage: bin/package [--without-library] VERSION"),
     Case("bin/package", 2, "", "package: "),
     Case("bin/package one", 2, "", "package: "),
+    Case("bin/package --without-library", 2, "", "package: "),
+    Case("bin/package 0.1.0 --without-library", 2, "", "package: "),
+    Case("bin/package 0.1.0", 1, "", "package: there is no library in out/library: `bin/library` "),
+    Case("test -e out", 1),
     Case("bin/package --help >&-", 5, "", "package: "),
+    Case(f"bin/package --help > {FULL}", 5, "", "package: "),
+    Case("bin/library --help", 0, "usage: bin/library [FOLDER]"),
+    Case("bin/library one two", 2, "", "library: usage: bin/library [FOLDER]"),
+    Case("bin/library --proved", 2, "", "library: usage: bin/library [FOLDER]"),
+    Case("bin/library --help >&-", 5, "", "library: "),
+    Case(f"bin/library --help > {FULL}", 5, "", "library: "),
+    Case("bin/new_program --help", 0, "usage: new_program FOLDER"),
+    Case("bin/new_program --help >&-", 5, "", "new_program: "),
+    Case(f"bin/new_program --help > {FULL}", 5, "", "new_program: "),
     Case("bin/accept --help", 0, None),
     Case("bin/accept --slow", 2, "", "accept: "),
     Case("bin/accept --help >&-", 5, "", "accept: "),
@@ -196,6 +209,7 @@ UNBUILT = [
 WITHOUT_KIT = [
     Case("bin/flow_run examples/import.toml 1 < examples/import.csv", 127, "", "flow_run: rt is not found"),
     Case("bin/flow check examples/import.toml", 127, "", "flow: rt is not found"),
+    Case("bin/library", 1, "", "library: rt is not found"),
 ]
 
 # A kit that fails, and would leave a file if it was to prove.
@@ -209,6 +223,7 @@ WITH_FAILING_KIT = [
         "no room\nflow_run: it could not be compiled without proof; `bin/flow_run --prove` proves and builds it instead\n127\nrt\n",
     ),
     Case("PATH=$PWD/kit:$PATH; { bin/flow --build; echo $?; } 2>&1", 0, "no room\nflow: it could not be compiled without proof\n127\n"),
+    Case("PATH=$PWD/kit:$PATH; CC=nothing bin/library", 1, "", "library: nothing is not found"),
 ]
 
 

@@ -7,6 +7,7 @@ import shutil
 import sys
 
 from accept.shell import run
+from release import library
 
 # Where valgrind reports on the library itself. Python and Mono have reports of their own.
 OURS = re.compile(r"\bbevelrose_|libbevelrose\.so")
@@ -25,20 +26,19 @@ PROGRAMS = [
 HOSTED = {"dotnet", "python"}
 
 
-def what_lacks(top):
+def what_lacks():
     """What is missing for this part, or None."""
-    folder = os.path.join(top, "out", "library")
-    if not os.path.exists(os.path.join(folder, "libbevelrose.so")):
-        return "bin/library has not made the library in out/library"
-    made = os.path.getmtime(os.path.join(folder, "libbevelrose.so"))
-    for place, _, names in os.walk(os.path.join(top, "crates", "bevelrose_c")):
-        if os.path.basename(place) != "out" and any(os.path.getmtime(os.path.join(place, name)) > made for name in names):
-            return "its sources have changed since bin/library made the library in out/library"
-    return None if shutil.which("cc") else "cc is not on PATH"
+    return library.what_lacks() or (None if shutil.which("cc") else "cc is not on PATH")
 
 
-def set_library(command, library):
-    return command.replace("$LIBRARY", f"'{library}'")
+def what_lacks_for(needed):
+    """Which of these programs are missing, or None."""
+    missing = [tool for tool in needed if not shutil.which(tool)]
+    return f"{' and '.join(missing)} {'is' if len(missing) == 1 else 'are'} not on PATH" if missing else None
+
+
+def set_library(command, folder):
+    return command.replace("$LIBRARY", f"'{folder}'")
 
 
 def under_valgrind(command, log):
@@ -79,16 +79,16 @@ def build(part, test, command, folder):
     return ended.status == 0
 
 
-def run_all(part, copy, library, room):
-    words = f"-O2 -Wall -Wextra -Werror -std=c11 -I '{library}' -o '{room}/library' accept/library.c '{library}/libbevelrose.a'"
+def run_all(part, copy, room):
+    made = library.FOLDER
+    words = f"-O2 -Wall -Wextra -Werror -std=c11 -I '{made}' -o '{room}/library' accept/library.c '{made}/libbevelrose.a'"
     if build(part, "accept/library.c", f"cc {words}", copy):
         run_checked(part, "accept/library.c", f"'{room}/library' examples", copy, False, room)
-    for name, needed, made, command in PROGRAMS:
-        missing = [tool for tool in needed if not shutil.which(tool)]
-        test = f"examples/{name}"
-        if missing:
-            part.skip(test, f"{' and '.join(missing)} is not on PATH")
+    for name, needed, building, command in PROGRAMS:
+        test, lacks = f"examples/{name}", what_lacks_for(needed)
+        if lacks:
+            part.skip(test, lacks)
             continue
         folder = os.path.join(copy, "examples", name)
-        if build(part, test, set_library(made, library), folder):
-            run_checked(part, test, set_library(command, library), folder, name in HOSTED, room)
+        if build(part, test, set_library(building, made), folder):
+            run_checked(part, test, set_library(command, made), folder, name in HOSTED, room)

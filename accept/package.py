@@ -1,4 +1,5 @@
-"""The package of bin/package: made twice, installed in a root that has the libraries of the programs and nothing else, and removed."""
+"""The package of bin/package: made twice, installed in a root that has the libraries of the programs and nothing else, and removed. It has
+the library for other languages where `bin/library` made that, and else it is made without."""
 
 import filecmp
 import os
@@ -8,10 +9,13 @@ import shutil
 import subprocess
 import tarfile
 
+from accept import callers
 from accept.examples import ALONE, PAGE, command_of, compare_report, names_of, shown_commands, text_of, wanted_of
 from accept.pages import Tree, broken_links
 from accept.shell import run
 from accept.tally import first_difference
+from release import library
+from release.shell import TOP
 
 DOCS = "usr/share/doc/bevelrose"
 
@@ -46,18 +50,19 @@ def libraries(program):
     return re.findall(r"(/\S+) \(0x", os.fsdecode(listed.stdout))
 
 
-def put_libraries(root, copy):
-    """Puts into a root what the programs need, and answers the paths there."""
-    found = set()
-    for tool in ("flow_run", "flow"):
-        for program in (f"out/{tool}", f"out/{tool}.unproved"):
-            if os.path.exists(os.path.join(copy, program)):
-                found.update(libraries(os.path.join(copy, program)))
+def put_libraries(root, *programs):
+    """Puts into a root what these programs need, as far as they are there, and answers the paths in the root."""
+    found = {path for program in programs if os.path.exists(program) for path in libraries(program)}
     for path in found:
         target = root + path
         os.makedirs(os.path.dirname(target), exist_ok=True)
         shutil.copy(os.path.realpath(path), target)
     return {os.path.normpath(path) for path in found}
+
+
+def programs_of(copy):
+    """The paths of the programs, proved and not."""
+    return [os.path.join(copy, "out", name) for tool in ("flow_run", "flow") for name in (tool, f"{tool}.unproved")]
 
 
 def files_below(root):
@@ -73,25 +78,56 @@ def in_root(root):
     return f"env -i {shutil.which('chroot')} {shlex.quote(root)} "
 
 
-def make(part, copy, room):
+def bring_library(part, copy):
+    """Puts what `bin/library` made to where bin/package looks for it, and answers whether it is there."""
+    lacks = library.what_lacks()
+    if lacks:
+        part.skip("the library in the package", lacks)
+        return False
+    place = os.path.join(copy, "out", "library")
+    if not os.path.exists(place):
+        shutil.copytree(library.FOLDER, place)
+    return True
+
+
+def command_of_package(copy, has_library, more=""):
+    return f"bin/package {'' if has_library else '--without-library '}{version_of(copy)}{more}"
+
+
+def make(part, copy, room, has_library):
     """Makes the packages twice, and answers whether they are there."""
-    command = f"bin/package {version_of(copy)}"
+    command = command_of_package(copy, has_library)
     first = run(command, copy)
     part.compare(command, ("status", 0, first.status), ("standard error", "", first.err))
-    command = f"bin/package {version_of(copy)}.1"
+    command = command_of_package(copy, has_library, ".1")
     ended = run(command, copy)
     part.compare(command, ("status", 1, ended.status), ("output", "", ended.out))
     other = os.path.join(room, "another place", "for it")
     shutil.copytree(copy, other, symlinks=True)
-    command = f"{ELSEWHERE}bin/package {version_of(copy)}"
+    command = f"{ELSEWHERE}{command_of_package(copy, has_library)}"
     part.compare(f"{command}, elsewhere", ("output", first.out, run(command, other).out))
     made = [os.path.join("out", name) for name in (archive_of(copy), debian_of(copy))]
     are_there = all(os.path.exists(os.path.join(place, name)) for name in made for place in (copy, other))
     for name in made if are_there else []:
         same = filecmp.cmp(os.path.join(copy, name), os.path.join(other, name), shallow=False)
         part.count(same, f"{name} elsewhere", ["it has other bytes"])
+    if has_library:
+        leave_library_out(part, other)
     shutil.rmtree(os.path.dirname(other))
     return are_there
+
+
+def leave_library_out(part, copy):
+    """Of a library that is older than its header no package is made, but for one without it."""
+    os.utime(os.path.join(copy, "crates", "bevelrose_c", "bevelrose.h"))
+    ended, wanted = run(command_of_package(copy, True), copy), "package: the library in out/library is older than its sources: "
+    told = ("standard error", wanted, ended.err[: len(wanted)])
+    part.compare("bin/package with an old library", ("status", 1, ended.status), ("output", "", ended.out), told)
+    command = command_of_package(copy, False)
+    ended = run(command, copy)
+    with tarfile.open(os.path.join(copy, "out", archive_of(copy))) as packed:
+        has_any = any(os.path.basename(name) in library.PLACES or name.endswith(".py") for name in packed.getnames())
+    part.compare(command, ("status", 0, ended.status), ("it has of the library", False, has_any))
 
 
 def call_dpkg(root, words):
@@ -104,17 +140,20 @@ def call_dpkg(root, words):
     return f"dpkg --root={shlex.quote(root)} --log={log} --force-depends {words}"
 
 
-def install(part, copy, room):
-    """Installs the Debian package in a root, runs each example there, and removes it."""
+def install(part, copy, room, has_library):
+    """Installs the Debian package in a root, runs each example there, calls its library, and removes it."""
     root = os.path.join(room, "installed")
     os.makedirs(root)
-    needed = put_libraries(root, copy)
+    needed = put_libraries(root, *programs_of(copy))
     ended = run(call_dpkg(root, f"--install out/{debian_of(copy)}"), copy)
     part.compare("dpkg --install", ("status", 0, ended.status))
     for name in names_of(copy):
         run_example(part, copy, root, name)
     manuals(part, root)
     complete(part, root)
+    if has_library:
+        callers.call_installed(part, root, in_root(root), lambda program: needed.update(put_libraries(root, program)))
+        callers.call_classes(part, root, room)
     ended = run(call_dpkg(root, "--remove bevelrose"), copy)
     part.compare("dpkg --remove", ("status", 0, ended.status), ("files left", set(), files_below(root) - needed))
 
@@ -130,14 +169,14 @@ def run_example(part, copy, root, name):
     part.compare(command, ("status", 0, ended.status), ("accepted", [network, records], accepted))
 
 
-def unpack(part, copy, room):
-    """Unpacks the archive, and makes each call of the page of examples in its folder, which is the root."""
+def unpack(part, copy, room, has_library):
+    """Unpacks the archive, and makes each call of the page of examples in its folder, which is the root; then those of its library."""
     name = archive_of(copy)
     with tarfile.open(os.path.join(copy, "out", name)) as archive:
         archive.extractall(room)
     root = os.path.join(room, name[: -len(".tar.gz")])
     links(part, root)
-    put_libraries(root, copy)
+    put_libraries(root, *programs_of(copy))
     begin = in_root(".")
     for name in names_of(copy):
         command = command_of(name, ALONE)
@@ -147,6 +186,8 @@ def unpack(part, copy, room):
         if wanted is not None:
             pairs = [] if ended.out == wanted else [("output", *first_difference(wanted, ended.out))]
             part.compare(f"{command}, unpacked", *pairs)
+    if has_library:
+        callers.call_unpacked(part, root)
 
 
 def links(part, root):
@@ -172,29 +213,39 @@ def manuals(part, root):
 
 
 # What bash and zsh are asked: the words of a line, and what the last is completed to.
-COMPLETED = [("flow", "flow dr", "draw"), ("flow", "flow draw --d", "--dot"), ("flow_run", "flow_run net 6", "64")]
+COMPLETED = [("flow dr", "draw"), ("flow --v", "--version"), ("flow draw --d", "--dot"), ("flow_run net 6", "64")]
 
 
 def complete(part, root):
-    """Both shells read the completions, and bash completes by them."""
-    for tool, line, wanted in COMPLETED:
-        file = shlex.quote(f"{root}/usr/share/bash-completion/completions/{tool}")
-        words = line.split()
-        script = f'. {file}; COMP_WORDS=({line}); COMP_CWORD={len(words) - 1}; _{tool} {tool} {words[-1]} x; echo "${{COMPREPLY[*]}}"'
-        if shutil.which("bash"):
-            ended = run(["bash", "-c", script], root)
-            part.compare(f"bash: {line}", ("completed to", wanted, ended.out.strip()), ("standard error", "", ended.err))
-        else:
-            part.skip(f"bash: {line}", "there is no bash")
-    for tool in ("flow", "flow_run"):
-        file = f"{root}/usr/share/zsh/vendor-completions/_{tool}"
-        if shutil.which("zsh"):
-            part.compare(f"zsh -n _{tool}", ("standard error", "", run(["zsh", "-n", file], root).err))
-        else:
-            part.skip(f"zsh -n _{tool}", "there is no zsh")
+    """Both shells complete by the completions."""
+    if shutil.which("bash"):
+        complete_by_bash(part, f"{root}/usr/share/bash-completion/completions")
+    else:
+        part.skip("bash", "there is no bash")
+    if shutil.which("zsh"):
+        complete_by_zsh(part, f"{root}/usr/share/zsh/vendor-completions")
+    else:
+        part.skip("zsh", "there is no zsh")
+
+
+def complete_by_bash(part, folder):
+    for line, wanted in COMPLETED:
+        tool, *_, last = line.split()
+        words = f"COMP_WORDS=({line}); COMP_CWORD={len(line.split()) - 1}; _{tool} {tool} {last} x"
+        ended = run(["bash", "-c", f'. {shlex.quote(f"{folder}/{tool}")}; {words}; echo "${{COMPREPLY[*]}}"'], folder)
+        part.compare(f"bash: {line}", ("completed to", wanted, ended.out.strip()), ("standard error", "", ended.err))
+
+
+def complete_by_zsh(part, folder):
+    """zsh completes in a terminal of its own."""
+    ended = run(["zsh", "-f", os.path.join(TOP, "accept", "complete.zsh"), folder, *(line for line, _ in COMPLETED)], folder)
+    wanted = [f"{line.rpartition(' ')[0]} {last}" for line, last in COMPLETED]
+    came = [line.rstrip() for line in ended.out.splitlines()]
+    part.compare("zsh", ("completed to", wanted, came), ("standard error", "", ended.err))
 
 
 def try_package(part, copy, room):
-    if make(part, copy, room):
-        install(part, copy, room)
-        unpack(part, copy, room)
+    has_library = bring_library(part, copy)
+    if make(part, copy, room, has_library):
+        install(part, copy, room, has_library)
+        unpack(part, copy, room, has_library)

@@ -1,18 +1,25 @@
-"""The pages of a package: README.md, docs/ and the examples."""
+"""The pages of a package: README.md, docs/ and the examples, which are networks with their records, and programs."""
 
+import glob
 import os
 import re
 
 FOLDERS = ["docs", "examples"]
+
+# The examples that call the library, with what each consists of.
+CALLING = ["examples/c/*.c", "examples/c/Makefile", "examples/dotnet/*.cs", "examples/dotnet/Makefile", "examples/python/*.py"]
+CALLING += ["examples/rust/Cargo.toml", "examples/rust/build.rs", "examples/rust/src/*.rs", "examples/rust/src/bin/*.rs"]
+
 LINK = re.compile(r"\[([^\]\n]+)\]\(([^)\s]+)\)")
 
 
-def names(top):
-    """The files of a package that stand in the repository as they are, but for links. The folders of examples in other languages call a
-    library that the package does not have."""
+def names(top, has_library):
+    """The files of a package that stand in the repository as they are, but for links; with the library also what calls it."""
     found = ["README.md"]
     for folder in FOLDERS:
         found += [f"{folder}/{name}" for name in sorted(os.listdir(os.path.join(top, folder)))]
+    for pattern in CALLING if has_library else []:
+        found += [os.path.relpath(path, top) for path in sorted(glob.glob(os.path.join(glob.escape(top), pattern)))]
     return [name for name in found if os.path.isfile(os.path.join(top, name))]
 
 
@@ -27,10 +34,11 @@ def without_dead_links(page, text, known):
     return LINK.sub(keep, text)
 
 
-def pages(top):
+def pages(top, has_library):
     """The texts of all of these files, by their paths."""
-    texts, known = {}, {*names(top), *FOLDERS}
-    for name in names(top):
+    found = names(top, has_library)
+    texts, known = {}, {*found, *(os.path.dirname(name) for name in found)}
+    for name in found:
         with open(os.path.join(top, name), encoding="utf-8", newline="") as file:
             text = file.read()
         texts[name] = without_dead_links(name, text, known) if name.endswith(".md") else text

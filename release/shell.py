@@ -5,8 +5,12 @@ import subprocess
 
 TOP = os.path.dirname(os.path.dirname(os.path.realpath(__file__)))
 
-# Each program, and the crate that it is built of.
-CRATES = {"flow_run": "flow_cli", "flow": "flow_tool"}
+# The programs, and the library for other languages.
+PROGRAMS = ["flow_run", "flow"]
+LIBRARY = "library"
+
+# The crate that each is built of.
+CRATES = {"flow_run": "flow_cli", "flow": "flow_tool", LIBRARY: "bevelrose_c"}
 
 
 class Stop(Exception):
@@ -23,7 +27,7 @@ def ask(words, folder):
 
 
 def builder(tool, script):
-    """What a script prints that has the functions of bin/program.sh, for this program."""
+    """What a script prints that has the functions of bin/program.sh, for this program or the library."""
     begin = '. "$1"; use_program "$2" "$3"; '
     words = ["sh", "-euc", begin + script, os.path.join(TOP, "bin", "package"), os.path.join(TOP, "bin", "program.sh"), tool, CRATES[tool]]
     done = subprocess.run(words, stdin=subprocess.DEVNULL, stdout=subprocess.PIPE)

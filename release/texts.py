@@ -1,7 +1,9 @@
 """Man pages and completions, which are made of what the programs print as their help."""
 
+import datetime
 import os
 import re
+import textwrap
 from typing import List, NamedTuple
 
 from release.shell import TOP, Stop, told_by
@@ -11,6 +13,9 @@ OF_CHECKOUT = "in a checkout"
 
 # The names of man pages for what help calls otherwise.
 HEADS = {"status": "EXIT STATUS", "example": "EXAMPLES", "arguments": "ARGUMENTS", "options": "OPTIONS"}
+
+# How long the lines of a man page are.
+WIDTH = 72
 
 TERM = re.compile(r"^ {2,6}(?=\S)(\S.*?)(?: {2,}(\S.*))?$")
 
@@ -68,26 +73,35 @@ def verbatim(lines):
     return [".PP", ".nf", ".RS 4", *(roff(line.strip()) for line in body), ".RE", ".fi"]
 
 
+def wrapped(text):
+    """A text as lines of a man page."""
+    return [roff(line) for line in textwrap.wrap(text, WIDTH, break_long_words=False, break_on_hyphens=False)]
+
+
 def written(section):
     """A section's text as man pages have it."""
     if section.head == "example":
         return verbatim(section.lines)
     if section.head:
-        return [line for term, text in listed(section) for line in (".TP", f".B {roff(term)}", roff(text))]
-    return [line for text in paragraphs(section.lines) for line in (".PP", roff(text))]
+        return [line for term, text in listed(section) for line in (".TP", f".B {roff(term)}", *wrapped(text))]
+    return [line for text in paragraphs(section.lines) for line in (".PP", *wrapped(text))]
 
 
 def paragraphs(lines):
     return [" ".join(part.split()) for part in "\n".join(lines).split("\n\n") if part.strip()]
 
 
-def manual(name, version, about, body, other):
-    """A man page of these lines, with what each begins and ends with."""
+def manual(tool, release, about, body, other):
+    """A man page of these lines, with what each begins and ends with. A release is its version and its time."""
+    version, time = release
+    day = datetime.datetime.fromtimestamp(time, datetime.timezone.utc).date()
     about = about.rstrip(".")
-    head = [f'.TH {name.upper()} 1 "" "Bevelrose {version}" ""', ".SH NAME", f"{name} \\- {roff(about[0].lower() + about[1:])}"]
+    head = [f'.TH {tool.upper()} 1 "{day}" "Bevelrose {version}" ""', ".SH NAME", f"{tool} \\- {roff(about[0].lower() + about[1:])}"]
     pages = "The pages named here, the examples and the file BUILD, which says how the program was built, lie in share/doc/bevelrose, or beside"
-    foot = [".SH FILES", ".PP", f"{pages} bin/ in an unpacked archive.", ".SH SEE ALSO", f".BR {other} (1)"]
-    return "\n".join([*head, *body, *foot, ""])
+    foot = [".SH FILES", *wrapped(f"{pages} bin/ in an unpacked archive."), ".SH SEE ALSO", f".BR {other} (1)"]
+    lines = [*head, *body, *foot, ""]
+    # The first paragraph behind a head needs no word that begins it.
+    return "\n".join(line for line, before in zip(lines, ["", *lines]) if line != ".PP" or before[:3] not in (".SH", ".SS"))
 
 
 def program_help():
@@ -96,14 +110,14 @@ def program_help():
     return text.split(f"\n{OF_CHECKOUT}:\n")[0].replace("bin/flow", "flow")
 
 
-def manual_of_run(version):
+def manual_of_run(release):
     usage, parts = sections(program_help())
     about = paragraphs(parts[0].lines)[0].split(". ")[0]
     lines = [".SH SYNOPSIS", f".B {roff(usage)}", ".SH DESCRIPTION"]
     for section in parts:
         lines += [f".SH {HEADS.get(section.head, section.head.upper())}"] if section.head else []
         lines += written(section)
-    return manual("flow_run", version, about, lines, "flow")
+    return manual("flow_run", release, about, lines, "flow")
 
 
 def commands_of(text):
@@ -117,24 +131,23 @@ def flow_helps(path):
     return first, {name: told_by(path, name, "--help") for name, _ in commands_of(first)}
 
 
-def manual_of_flow(version, path):
+def manual_of_flow(release, path):
     first, helps = flow_helps(path)
     _, parts = sections(first)
-    lines = [".SH SYNOPSIS"]
-    for text in helps.values():
-        lines += [f".B {roff(sections(text)[0])}", ".br"]
-    lines += [".SH COMMANDS"]
+    usages = [f".B {roff(sections(text)[0])}" for text in helps.values()]
+    lines = [".SH SYNOPSIS", *"\n.br\n".join([*usages, f".B flow {roff(' | '.join(long_options(first)))}"]).split("\n"), ".SH COMMANDS"]
     for name, text in helps.items():
         lines += [f".SS {name}"]
         for section in sections(text)[1]:
             lines += written(section)
     lines += [".SH EXIT STATUS", *written(next(section for section in parts if section.head == "status"))]
-    return manual("flow", version, paragraphs(parts[0].lines)[0], lines, "flow_run")
+    return manual("flow", release, paragraphs(parts[0].lines)[0], lines, "flow_run")
 
 
-def manuals(version, flow):
+def manuals(version, time, flow):
     """The man pages, by their paths in a package; flow is the path of that program."""
-    return {"man/flow_run.1": manual_of_run(version), "man/flow.1": manual_of_flow(version, flow)}
+    release = version, time
+    return {"man/flow_run.1": manual_of_run(release), "man/flow.1": manual_of_flow(release, flow)}
 
 
 def options_of(text):
@@ -143,21 +156,29 @@ def options_of(text):
     for section in sections(text)[1]:
         if section.head == "options":
             for term, about in listed(section):
-                names = re.findall(r"--?[a-z-]+", term)
+                names = re.findall(r"--?[A-Za-z-]+", term)
                 found.append((names, "<" in term, about))
     return found
+
+
+def long_options(text):
+    """The options of a command that are words."""
+    return [name for names, _, _ in options_of(text) for name in names if name.startswith("--")]
 
 
 BASH_RUN = """\
 # Completion of flow_run for bash.
 _flow_run() {
     case $COMP_CWORD in
-        1) mapfile -t COMPREPLY < <(compgen -f -- "$2") ;;
+        1)
+            compopt -o filenames 2>/dev/null
+            mapfile -t COMPREPLY < <(compgen -f -- "$2")
+            ;;
         2) mapfile -t COMPREPLY < <(compgen -W '1 2 4 8 16 32 64' -- "$2") ;;
         *) COMPREPLY=() ;;
     esac
 }
-complete -o filenames -F _flow_run flow_run
+complete -F _flow_run flow_run
 """
 
 BASH_FLOW = """\
@@ -174,6 +195,7 @@ _flow() {
                 esac
                 ;;
             *)
+                compopt -o filenames 2>/dev/null
                 mapfile -t COMPREPLY < <(compgen -f -- "$2")
                 return
                 ;;
@@ -181,7 +203,7 @@ _flow() {
     fi
     mapfile -t COMPREPLY < <(compgen -W "$words" -- "$2")
 }
-complete -o filenames -F _flow flow
+complete -F _flow flow
 """
 
 ZSH_RUN = """\
@@ -191,13 +213,18 @@ _arguments '1:network:_files' '2:workers:(1 2 4 8 16 32 64)' '3:limit:'
 
 ZSH_FLOW = """\
 #compdef flow
-local -a commands
+local -a commands options
 commands=(
 %s
 )
+options=(
+%s
+)
 if (( CURRENT == 2 )); then
-    _describe command commands
-    return
+    local found=1
+    _describe command commands && found=0
+    _describe -o option options && found=0
+    return found
 fi
 case $words[2] in
 %s
@@ -210,21 +237,26 @@ def quoted(text):
     return text.replace("'", "'\\''").replace("[", "\\[").replace("]", "\\]").replace(":", "\\:")
 
 
-def bash_of_flow(helps):
+def bash_of_flow(first, helps):
     cases = []
     for name, text in helps.items():
         words = " ".join(word for names, _, _ in options_of(text) for word in names)
         cases.append(f"                    {name}) words='{words}' ;;")
-    return BASH_FLOW % (" ".join([*helps, "--help"]), "\n".join(cases))
+    return BASH_FLOW % (" ".join([*helps, *long_options(first)]), "\n".join(cases))
 
 
 def zsh_of_flow(first, helps):
     commands = [f"    '{name}:{quoted(about)}'" for name, about in commands_of(first)]
+    options = [f"    '{name}:{quoted(about)}'" for names, _, about in options_of(first) for name in names]
     cases = []
     for name, text in helps.items():
-        specs = [f"'{word}[{quoted(about)}]{':value:' if has_value else ''}'" for names, has_value, about in options_of(text) for word in names]
+        specs = [spec_of_zsh(word, *more) for names, *more in options_of(text) for word in names]
         cases.append(f"    {name}) _arguments {' '.join(specs)} '*:file:_files' ;;")
-    return ZSH_FLOW % ("\n".join(commands), "\n".join(cases))
+    return ZSH_FLOW % ("\n".join(commands), "\n".join(options), "\n".join(cases))
+
+
+def spec_of_zsh(word, has_value, about):
+    return f"'{word}{'=' if has_value else ''}[{quoted(about)}]{':value:' if has_value else ''}'"
 
 
 def completions(flow):
@@ -232,7 +264,7 @@ def completions(flow):
     first, helps = flow_helps(flow)
     return {
         "completions/bash/flow_run": BASH_RUN,
-        "completions/bash/flow": bash_of_flow(helps),
+        "completions/bash/flow": bash_of_flow(first, helps),
         "completions/zsh/_flow_run": ZSH_RUN,
         "completions/zsh/_flow": zsh_of_flow(first, helps),
     }

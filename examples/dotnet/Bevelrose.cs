@@ -1,4 +1,5 @@
-// Bevelrose from .NET: networks of blocks, run over records. It loads libbevelrose.so, which `bin/library` makes.
+// Bevelrose from .NET: networks of blocks, run over records. It loads libbevelrose.so where the system's loader finds it: an installed
+// package puts it there, and LD_LIBRARY_PATH names another folder.
 //
 //     using (var network = new Network(text))
 //         var report = network.Run(records);
@@ -48,11 +49,20 @@ namespace Bevelrose
     /// <summary>A network that is ready to run. It is used and disposed of on the thread that made it.</summary>
     public sealed class Network : IDisposable
     {
+        // The number of the calls that this class makes.
+        const uint Version = 1;
+
         // What tells of a refusal has at most so many bytes.
         const int Line = 128;
 
         IntPtr handle;
         bool isDisposed;
+
+        static Network()
+        {
+            if (bevelrose_version() != Version)
+                throw new NotSupportedException("libbevelrose.so has other calls than this class makes");
+        }
 
         /// <summary>Throws a RefusalException where this text is no network.</summary>
         public static void Check(string text)
@@ -119,6 +129,9 @@ namespace Bevelrose
         static UIntPtr Length(string text) => (UIntPtr)Encoding.UTF8.GetByteCount(text);
 
         const string Library = "bevelrose";
+
+        [DllImport(Library)]
+        static extern uint bevelrose_version();
 
         [DllImport(Library)]
         static extern byte bevelrose_check(byte[] text, UIntPtr textLength, [Out] byte[] room, UIntPtr roomLength, out UIntPtr length);

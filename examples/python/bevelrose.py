@@ -1,4 +1,5 @@
-"""Bevelrose from Python: networks of blocks, run over records. It loads libbevelrose.so, which `bin/library` makes.
+"""Bevelrose from Python: networks of blocks, run over records. It loads libbevelrose.so from the folder that BEVELROSE names, or else from
+that of `bin/library` in a checkout, from lib/ of an unpacked package, or from where the system's loader finds it.
 
     with bevelrose.Network(text) as network:
         status, report = network.run(records)
@@ -12,12 +13,24 @@ import sys
 
 NO_LIMIT = 2**64 - 1
 
+# The number of the calls that are made here.
+VERSION = 1
+
 # What tells of a refusal has at most so many bytes.
 LINE = 128
 
 HERE = os.path.dirname(os.path.realpath(__file__))
-FOLDER = os.environ.get("BEVELROSE", os.path.join(HERE, "..", "..", "out", "library"))
-library = ctypes.CDLL(os.path.join(FOLDER, "libbevelrose.so"))
+NAME = "libbevelrose.so"
+BESIDE = [os.path.join(HERE, "..", "..", *folders, NAME) for folders in (("out", "library"), ("lib",))]
+
+
+def path_of_library():
+    """The path of the library, or its name alone, by which the system's loader looks for it."""
+    named = os.environ.get("BEVELROSE")
+    return os.path.join(named, NAME) if named else next(filter(os.path.exists, BESIDE), NAME)
+
+
+library = ctypes.CDLL(path_of_library())
 
 ANSWER = [ctypes.c_char_p, ctypes.c_size_t, ctypes.POINTER(ctypes.c_size_t)]
 TEXT = [ctypes.c_char_p, ctypes.c_size_t]
@@ -30,6 +43,8 @@ for name, given, result in [
 ]:
     function = getattr(library, f"bevelrose_{name}")
     function.argtypes, function.restype = given, result
+if library.bevelrose_version() != VERSION:
+    raise ImportError(f"{NAME} has other calls than are made here")
 
 
 class Refusal(Exception):

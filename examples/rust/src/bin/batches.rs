@@ -1,7 +1,5 @@
 //! Runs examples/batches.toml over its records, and compares the report with the one that is stored.
 
-mod bevelrose;
-
 use bevelrose::{check, Ended, Network};
 use std::error::Error;
 use std::path::PathBuf;
