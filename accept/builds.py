@@ -7,6 +7,9 @@ import threading
 from accept.examples import COMMAND, compare_report, text_of, wanted_of
 from accept.shell import run
 
+# What a first call says on a stream that is no terminal.
+FIRST = "flow_run: compiling the program without proof, which takes a minute or two\n"
+
 # How long a build may take.
 SECONDS = 1800
 
@@ -43,6 +46,7 @@ def start(part, copy, logs):
         part.count(False, "README.md", [f"its first command runs no example: {command}"])
     else:
         compare_report(part, command, wanted_of(copy, name.group(1)), ended)
+        part.compare(f"{command}, which builds", ("standard error", FIRST, ended.err))
 
 
 def what_is_not_built(copy):

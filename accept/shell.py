@@ -44,9 +44,9 @@ def stop(number, _frame):
     sys.exit(128 + number)
 
 
-def begin(words, folder, environment):
+def begin(words, folder, environment, error=subprocess.PIPE):
     """Begins a command in a session of its own, unless this one is to end."""
-    pipes = {"stdin": subprocess.DEVNULL, "stdout": subprocess.PIPE, "stderr": subprocess.PIPE}
+    pipes = {"stdin": subprocess.DEVNULL, "stdout": subprocess.PIPE, "stderr": error}
     with guard:
         if stopping.is_set():
             sys.exit(1)
@@ -70,6 +70,27 @@ def run(command, folder, seconds=SECONDS, path=None):
     finally:
         with guard:
             running.discard(process)
+
+
+def run_on_terminal(command, folder):
+    """Runs a text for sh that writes little to standard error, which is a terminal, and answers how it ended."""
+    ours, theirs = os.openpty()
+    process = begin(["sh", "-c", command], folder, None, theirs)
+    os.close(theirs)
+    try:
+        out, _ = process.communicate(timeout=SECONDS)
+        err = os.read(ours, 4096)
+    except subprocess.TimeoutExpired:
+        end(process)
+        return Ended(None, b"", f"it had not ended after {SECONDS} s".encode())
+    except OSError:
+        # nothing was written, and nobody has the other end
+        err = b""
+    finally:
+        os.close(ours)
+        with guard:
+            running.discard(process)
+    return Ended(process.returncode, out, err.replace(b"\r\n", b"\n"))
 
 
 def path_without(program, folder):
