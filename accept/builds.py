@@ -8,7 +8,7 @@ from accept.examples import COMMAND, compare_report, text_of, wanted_of
 from accept.shell import run
 
 # What a first call says on a stream that is no terminal.
-FIRST = "flow_run: compiling the program without proof, which takes a minute or two\n"
+FIRST = "flow_run: compiling the program without proof, which takes three or four minutes\n"
 
 # How long a build may take.
 SECONDS = 1800

@@ -246,7 +246,7 @@ WITH_FAILING_KIT = [
     Case(
         "PATH=$PWD/kit:$PATH; { bin/flow_run examples/import.toml 1 < examples/import.csv; echo $?; ls kit; } 2>&1",
         0,
-        "flow_run: compiling the program without proof, which takes a minute or two\n"
+        "flow_run: compiling the program without proof, which takes three or four minutes\n"
         "no room\nflow_run: it could not be compiled without proof; `bin/flow_run --prove` proves and builds it instead\n127\nrt\n",
     ),
     Case("PATH=$PWD/kit:$PATH; { bin/flow --build; echo $?; } 2>&1", 0, "no room\nflow: it could not be compiled without proof\n127\n"),
