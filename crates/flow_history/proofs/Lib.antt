@@ -13,9 +13,11 @@ pub mod NewPorts
 pub mod OrderAlways
 pub mod OrderKept
 pub mod PortCalls
+pub mod ReservedKept
 pub mod RulesKept
 pub mod Still
 pub mod Takes
+pub mod WishesLeave
 pub mod WorkKept
 pub mod WorkSteps
 pub mod WorkTold

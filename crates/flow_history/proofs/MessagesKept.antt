@@ -59,7 +59,7 @@ only_came : (h : History) (came : List Arrival) (values : List Value)
 only_came h came values =
     ap (λ (gave : List Gift). record { came = h.came ++ came; made = h.made ++ values; gave = gave }) (append-nil h.gave)
 
-only_given : (h : History) (gifts : List Gift)
+pub only_given : (h : History) (gifts : List Gift)
     → record { came = h.came ++ []; made = h.made ++ []; gave = h.gave ++ gifts } ≡ record h { gave = h.gave ++ gifts }
 only_given h gifts =
     ap (λ (came : List Arrival). record { came = came; made = h.made ++ []; gave = h.gave ++ gifts }) (append-nil h.came)
@@ -258,7 +258,7 @@ module _ (history : History) (block : BlockState) (kept : Kept false history blo
       shares_freely kind e one = ap₂ (λ (free alone : Bool). free && alone) e one
   places_by kind is freely limited false shares weighs = omega arith
 
-  keeps : KeepsMessages history block
+  pub keeps : KeepsMessages history block
   keeps = record {
     shared = kept.messages.shared;
     as_they_are = kept.messages.as_they_are;

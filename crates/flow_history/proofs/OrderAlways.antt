@@ -1,5 +1,5 @@
 -- Over any calls blocks that share their messages out give them by the rules of their links, and in order: blocks, batched joins,
--- and blocks with a function.
+-- joins that reserve, and blocks with a function.
 use Rattle.std.proofs.Common.{◌≡◌, ℕ, zero, suc, ◌≤◌, ◌^◌, ◌+◌, Bool, true, false, List, [], ◌∷◌, ◌++◌, length, map, Some, None, is_none, Result, Ok, Err, refl, ap, sym, subst, ◌∙◌, arith, append-nil, length-append}
 use Rattle.std.proofs.lemmas.Bool.{le-ltb}
 use Rattle.flow_value.specs.declared.value.Value.{Value}
@@ -22,14 +22,19 @@ use Rattle.flow_block.specs.Jobs.{Slot, brings, comes_out}
 use Rattle.flow_block.proofs.ResultsKept.{keeps_goes}
 use Rattle.flow_batched.specs.BatchedJoin.{JoinState, fresh_join}
 use Rattle.flow_exec.specs.Execution.{ExecutionState, fresh_execution, job_result}
+use Rattle.flow_link.specs.TargetCalls.{TargetCall}
+use Rattle.flow_reserving.specs.ReservingJoin.{ReservingState, fresh_join as fresh_reserving}
+use Rattle.flow_reserving.specs.Wishes.{after_wish}
 use Rattle.flow_history.specs.Calls.{Call, MayCall, Fits, Does, Step, AllDone, after_all}
 use Rattle.flow_history.specs.Grouped.{MayCallJoin, DoesToJoin, FitsJoin, came_to, grouped_by}
 use Rattle.flow_history.specs.History.{Gift, History, nothing_yet, came_by, made_by, gave_by, noted, history_of}
-use Rattle.flow_history.specs.Ordered.{GoesInOrder, GivesByRule, KeepsLinkOrder, MayCallSteadily, MayCallJoinSteadily, WorkGoesInOrder, WorkAnswersSteadily, MayCallWorkWithIds, MayCallWorkSteadily, MessagesGoByRule, MessagesGoInOrder}
+use Rattle.flow_history.specs.Ordered.{GoesInOrder, GivesByRule, KeepsLinkOrder, MayCallSteadily, MayCallJoinSteadily, MayCallReservingSteadily, WorkGoesInOrder, WorkAnswersSteadily, MayCallWorkWithIds, MayCallWorkSteadily, MessagesGoByRule, MessagesGoInOrder}
 use Rattle.flow_history.proofs.ExitsAsked.{fresh_law, puts_law}
+use Rattle.flow_history.specs.Reserved.{MayCallReserving, DoesToReserving, FitsReserving, came_into, tuples_by}
 use Rattle.flow_history.specs.Worked.{WorkCall, gave_for, FitsWork, came_for, DoesWork, worked_out}
 use Rattle.flow_history.proofs.OrderKept.{MayCallAsked, call_by_rule, call_in_order, kind_stays}
 use Rattle.flow_history.proofs.RulesKept.{GoesByRule, puts_by_rule, rules_say}
+use Rattle.flow_history.proofs.WishesLeave.{wish_exits, wish_kind}
 
 -- it shares its messages out, and has given them so
 record Shares (sure : Bool) (gave : List Gift) (block : BlockState) : Type 0 where
@@ -130,6 +135,36 @@ join_orders gave old new (Call.gives call) shares does = common_orders gave old.
 join_orders gave old new (Call.takes call) shares does = tt
 join_orders gave old new Call.asked shares does = tt
 
+-- One call of a join that reserves
+
+-- its wishes leave what it gives as it is
+wish_shares : (sure : Bool) (gave : List Gift) (join : ReservingState) → Shares sure gave join.block → Shares sure gave (after_wish join).block
+wish_shares sure gave join shares = record {
+  one = ap is_one_taker (wish_kind join) ∙ shares.one;
+  goes = subst (λ (o : OutletState). GoesByRule sure gave o) (sym (wish_exits join)) shares.goes;
+}
+
+reserving_keeps : (sure : Bool) (gave : List Gift) (old new : ReservingState) (call : Call) → Shares sure gave old.block → MayCallAsked sure call old.block
+    → DoesToReserving call old new → Shares sure (gave ++ gave_by call) new.block
+reserving_keeps sure gave old new (Call.acts call) shares may does = common_keeps sure gave old.block new.block (Call.acts call) shares may does.0
+reserving_keeps sure gave old new (Call.gives call) shares may does = common_keeps sure gave old.block new.block (Call.gives call) shares may does.0
+reserving_keeps sure gave old new (Call.takes (TargetCall.offered link header may_postpone how)) shares may does =
+    common_keeps sure gave old.block new.block (Call.takes (TargetCall.offered link header may_postpone how)) shares may does.0
+reserving_keeps sure gave old new (Call.takes (TargetCall.handed link header value)) shares may does =
+    common_keeps sure gave old.block new.block (Call.takes (TargetCall.handed link header value)) shares may does.0
+reserving_keeps sure gave old new (Call.takes (TargetCall.wished told)) shares may does =
+    stays_given sure gave new.block (after_wish old).block (ap (λ (join : ReservingState). join.block) does.1) (wish_shares sure gave old shares)
+reserving_keeps sure gave old new (Call.takes (TargetCall.noted link told)) shares may does =
+    common_keeps sure gave old.block new.block (Call.takes (TargetCall.noted link told)) shares may does.0
+reserving_keeps sure gave old new Call.asked shares may does = common_keeps sure gave old.block new.block Call.asked shares may does.0
+
+reserving_orders : (gave : List Gift) (old new : ReservingState) (call : Call) → Shares true gave old.block → DoesToReserving call old new
+    → GoesInOrder call old.block.exits
+reserving_orders gave old new (Call.acts call) shares does = tt
+reserving_orders gave old new (Call.gives call) shares does = common_orders gave old.block new.block (Call.gives call) shares does.0
+reserving_orders gave old new (Call.takes call) shares does = tt
+reserving_orders gave old new Call.asked shares does = tt
+
 -- One call of a block with a function
 
 has_ids : (values : List Value) (o : OutletState) → o.next + length o.left + o.spare + length values ≤ 2 ^ 59 → lacks_ids values o ≡ false
@@ -228,6 +263,10 @@ messages_go W = record {
       gives_by_rule (λ (join : JoinState). join.block) FitsJoin MayCallJoin DoesToJoin came_to grouped_by gave_by false
       (λ gave old new call shares may does. join_keeps false gave old new call shares (may, never) does)
       (fresh_join size ports rules) (fresh_shares false _ 1 size ports rules refl);
+  reserving = λ ports sources rules.
+      gives_by_rule (λ (join : ReservingState). join.block) FitsReserving MayCallReserving DoesToReserving came_into tuples_by gave_by false
+      (λ gave old new call shares may does. reserving_keeps false gave old new call shares (may, never) does)
+      (fresh_reserving ports sources rules) (fresh_shares false _ 1 0 ports rules refl);
   works = λ meaning kind lanes work ports rules works.
       gives_by_rule (λ (execution : ExecutionState W). execution.block) FitsWork (MayCallWorkWithIds meaning) (DoesWork meaning) came_for
       (worked_out meaning) gave_for false
@@ -245,6 +284,10 @@ messages_in_order W = record {
       goes_in_order (λ (join : JoinState). join.block) FitsJoin MayCallJoinSteadily DoesToJoin came_to grouped_by gave_by GoesInOrder
       (λ gave old new call shares may does. join_keeps true gave old new call shares (may.0, (λ _. may.1)) does) join_orders
       (fresh_join size ports rules) (fresh_shares true _ 1 size ports rules refl);
+  reserving = λ ports sources rules.
+      goes_in_order (λ (join : ReservingState). join.block) FitsReserving MayCallReservingSteadily DoesToReserving came_into tuples_by gave_by GoesInOrder
+      (λ gave old new call shares may does. reserving_keeps true gave old new call shares (may.0, (λ _. may.1)) does) reserving_orders
+      (fresh_reserving ports sources rules) (fresh_shares true _ 1 0 ports rules refl);
   works = λ meaning kind lanes work ports rules works.
       goes_in_order (λ (execution : ExecutionState W). execution.block) FitsWork (MayCallWorkSteadily meaning) (DoesWork meaning) came_for
       (worked_out meaning) gave_for WorkGoesInOrder

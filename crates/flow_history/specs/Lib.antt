@@ -4,4 +4,5 @@ pub mod Grouped
 pub mod History
 pub mod Kept
 pub mod Ordered
+pub mod Reserved
 pub mod Worked

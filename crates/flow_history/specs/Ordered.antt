@@ -17,11 +17,14 @@ use Rattle.flow_outlet.specs.Outlet.{OutletState, end_at}
 use Rattle.flow_outlet.specs.declared.ends.LinkRule.{LinkRule}
 use Rattle.flow_block.specs.Block.{BlockState}
 use Rattle.flow_block.specs.BlockFits.{fresh_block}
+use Rattle.flow_group.specs.declared.round.Source.{Source}
 use Rattle.flow_batched.specs.BatchedJoin.{JoinState, fresh_join}
 use Rattle.flow_exec.specs.Execution.{ExecutionState, fresh_execution, lacks_job_ids}
+use Rattle.flow_reserving.specs.ReservingJoin.{ReservingState, fresh_join as fresh_reserving}
 use Rattle.flow_history.specs.Calls.{Call, MayCall, Does, Fits, Step, AllDone, after_all}
 use Rattle.flow_history.specs.Grouped.{MayCallJoin, DoesToJoin, FitsJoin, came_to, grouped_by}
 use Rattle.flow_history.specs.History.{Gift, nothing_yet, given_over, came_by, made_by, gave_by, history_of}
+use Rattle.flow_history.specs.Reserved.{MayCallReserving, DoesToReserving, FitsReserving, came_into, tuples_by}
 use Rattle.flow_history.specs.Worked.{WorkCall, gave_for, MayCallWork, FitsWork, came_for, DoesWork, worked_out}
 
 -- the end at a place is the one that its link names
@@ -69,6 +72,12 @@ MayCallJoinSteadily call join = MayCallJoin call join × AnswersSteadily call jo
 abbrev pub exits_of_join : JoinState → OutletState
 exits_of_join join = join.block.exits
 
+abbrev pub MayCallReservingSteadily : Call → ReservingState → Type 0
+MayCallReservingSteadily call join = MayCallReserving call join × AnswersSteadily call join.block.exits
+
+abbrev pub exits_of_reserving : ReservingState → OutletState
+exits_of_reserving join = join.block.exits
+
 abbrev pub WorkGoesInOrder : WorkCall → OutletState → Type 0
 WorkGoesInOrder (WorkCall.common call) exits = GoesInOrder call exits
 WorkGoesInOrder _ exits = Unit {0}
@@ -93,13 +102,16 @@ module _ {W : Type 0} where
   abbrev pub MayCallWorkSteadily : (W → Value → Result (List Value) WorkFault) → WorkCall → ExecutionState W → Type 0
   MayCallWorkSteadily meaning call execution = MayCallWorkWithIds meaning call execution × WorkAnswersSteadily call execution
 
--- of a block, a batched join and an execution block to which nothing came, whatever their targets answer
+-- of a block, a batched join, a join that reserves and an execution block to which nothing came, whatever their targets answer
 pub record MessagesGoByRule (W : Type 0) : Type 0 where
   pub blocks : (kind : BlockKind) (lanes size : ℕ) (ports : List PortState) (rules : List LinkRule) → is_one_taker kind ≡ true
       → GivesByRule (λ (block : BlockState). block.exits) Fits MayCall Does came_by made_by gave_by
       (fresh_block kind lanes size ports rules)
   pub joins : (size : ℕ) (ports : List PortState) (rules : List LinkRule)
       → GivesByRule exits_of_join FitsJoin MayCallJoin DoesToJoin came_to grouped_by gave_by (fresh_join size ports rules)
+  pub reserving : (ports : List PortState) (sources : List Source) (rules : List LinkRule)
+      → GivesByRule exits_of_reserving FitsReserving MayCallReserving DoesToReserving came_into tuples_by gave_by
+      (fresh_reserving ports sources rules)
   pub works : (meaning : W → Value → Result (List Value) WorkFault) (kind : BlockKind) (lanes : ℕ) (work : Option W)
       (ports : List PortState) (rules : List LinkRule) → has_work kind ≡ true
       → GivesByRule exits_of_work FitsWork (MayCallWorkWithIds meaning) (DoesWork meaning) came_for (worked_out meaning) gave_for
@@ -112,6 +124,9 @@ pub record MessagesGoInOrder (W : Type 0) : Type 0 where
       (fresh_block kind lanes size ports rules)
   pub joins : (size : ℕ) (ports : List PortState) (rules : List LinkRule)
       → KeepsLinkOrder exits_of_join FitsJoin MayCallJoinSteadily DoesToJoin GoesInOrder (fresh_join size ports rules)
+  pub reserving : (ports : List PortState) (sources : List Source) (rules : List LinkRule)
+      → KeepsLinkOrder exits_of_reserving FitsReserving MayCallReservingSteadily DoesToReserving GoesInOrder
+      (fresh_reserving ports sources rules)
   pub works : (meaning : W → Value → Result (List Value) WorkFault) (kind : BlockKind) (lanes : ℕ) (work : Option W)
       (ports : List PortState) (rules : List LinkRule) → has_work kind ≡ true
       → KeepsLinkOrder exits_of_work FitsWork (MayCallWorkSteadily meaning) (DoesWork meaning) WorkGoesInOrder

@@ -4,6 +4,7 @@ ghost use Rattle.flow_history.specs.Copied.{CopiesAreGiven};
 ghost use Rattle.flow_history.specs.Grouped.{GroupsAreKept};
 ghost use Rattle.flow_history.specs.Kept.{MessagesAreKept, NewPortsTookNothing};
 ghost use Rattle.flow_history.specs.Ordered.{MessagesGoByRule, MessagesGoInOrder};
+ghost use Rattle.flow_history.specs.Reserved.{ReservedAreKept};
 ghost use Rattle.flow_history.specs.Worked.{WorkIsKept};
 
 /// Nothing came to ports that were just made. From a block with such ports the other laws begin.
@@ -21,7 +22,7 @@ pub fn messages_are_kept()
 
 /// Whatever is called, and whatever targets answer, what a block gives over a link, unless it copies, is what the link's
 /// predicate admits, and no more than its limit. This holds of blocks with a function, whose jobs the caller begins and ends
-/// too, and of batched joins.
+/// too, of batched joins, and of joins that reserve.
 pub fn messages_go_by_rule<W>()
     ensures { MessagesGoByRule W }
 {}
@@ -37,6 +38,14 @@ pub fn messages_go_in_order<W>()
 /// of groups that it has left, and those that come fit into the port's capacity.
 pub fn groups_are_kept()
     ensures { GroupsAreKept }
+{}
+
+/// Whatever is called, a join that reserves makes tuples of what it took, each with one message of each port, in order, and
+/// holds the rest. It gives each tuple once, in order, and has the rest left. No port took more than one message more than
+/// another, and none did unless messages are claimed, nor where nothing comes. What it holds at a port, the tuples that it has
+/// left, and what comes there fit into the capacity.
+pub fn reserved_messages_are_kept()
+    ensures { ReservedAreKept }
 {}
 
 /// Whatever is called, and whatever targets answer, each link out of a block that copies is given some of what the block

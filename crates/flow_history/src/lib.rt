@@ -10,5 +10,5 @@ mod laws;
 
 pub use laws::{
     copies_are_given, groups_are_kept, messages_are_kept, messages_go_by_rule,
-    messages_go_in_order, new_ports_took_nothing, work_is_kept,
+    messages_go_in_order, new_ports_took_nothing, reserved_messages_are_kept, work_is_kept,
 };
