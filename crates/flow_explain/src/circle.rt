@@ -53,13 +53,11 @@ fn link_into(stays: &[bool], ends: &[Ends], block: usize) -> Option<usize> {
 
 fn leads_into(link: Ends, stays: &[bool], block: usize) -> bool {
     match (link.source, link.target) {
-        (Some(source), Some(target)) => target == block && is_true(stays, source),
+        (Some(source), Some(target)) => {
+            target == block && stays.get(source).copied().unwrap_or(false)
+        }
         _ => false,
     }
-}
-
-fn is_true(flags: &[bool], at: usize) -> bool {
-    flags.get(at).copied().unwrap_or(false)
 }
 
 // The circle into which the way back from a block that stays leads, since into each that stays leads another.

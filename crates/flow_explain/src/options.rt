@@ -47,11 +47,6 @@ pub(crate) fn range_of(option: &str) -> Option<(u32, u32)> {
     }
 }
 
-/// How many ports a block of this kind has, where it says this of its ports.
-pub(crate) fn port_count(kind: BlockKind, ports: Option<u32>) -> u32 {
-    kind.unit().port_count(ports)
-}
-
 /// Whether a text is a name of a block.
 pub(crate) fn is_name(name: &str) -> bool {
     for byte in name.bytes() {

@@ -2,9 +2,10 @@
 use crate::circle::circle;
 use crate::finding::{Flaw, add_flaw, is_full};
 use crate::hint::{Hint, near_or};
-use crate::keys::{kind_word, knows, plural};
+use crate::keys::{Form, kind_word, knows, plural};
 use crate::network::Network;
-use crate::options::{OPTIONS, allows, is_name, needed, port_count, range_of};
+use crate::options::{OPTIONS, allows, is_name, needed, range_of};
+use crate::shape::{fits, is_misspelt};
 use flow_fault_text::TextFault;
 use flow_hints::quoted;
 use flow_link::{BlockKind, Place, PlanFault};
@@ -59,8 +60,10 @@ fn add_end_flaws(
     ends: &[Ends],
     flaws: &mut Vec<Flaw>,
 ) -> Result<(), AllocError> {
-    for (link, ends) in ends.iter().enumerate() {
-        add_unknown_blocks(alloc, network, names, link, *ends, flaws)?;
+    if knows_names(alloc, network, names)? {
+        for (link, ends) in ends.iter().enumerate() {
+            add_unknown_blocks(alloc, network, names, link, *ends, flaws)?;
+        }
     }
     for (link, ends) in ends.iter().enumerate() {
         add_port_flaw(alloc, network, link, ends.target, flaws)?;
@@ -198,14 +201,21 @@ fn named(names: &[Option<&str>], name: &str) -> Option<usize> {
     None
 }
 
-// Whether a block has no name that is a text.
-fn lacks_name(names: &[Option<&str>]) -> bool {
+// Whether the names of all blocks that are meant are known. One without a name, or under another key, may be any.
+fn knows_names(
+    alloc: Global,
+    network: Network<'_>,
+    names: &[Option<&str>],
+) -> Result<bool, AllocError> {
     for name in names {
         if name.is_none() {
-            return true;
+            return Ok(false);
         }
     }
-    false
+    let Some(blocks) = network.value(Part::Top, "block") else {
+        return Ok(false);
+    };
+    Ok(fits(Form::Tables, blocks) && !is_misspelt(alloc, network, Part::Top, "block")?)
 }
 
 // Adds the options that a block has and its kind has not, that it lacks, and that are out of range.
@@ -522,8 +532,7 @@ fn add_unknown_block(
     let Some(name) = network.text_at(part, end) else {
         return Ok(());
     };
-    // a block without a name may be the one that is meant
-    if is_full(flaws) || lacks_name(names) {
+    if is_full(flaws) {
         return Ok(());
     }
     let leads = if end == "from" {
@@ -572,7 +581,8 @@ fn add_port_flaw(
         return Ok(());
     };
     let port = port_of(network, link);
-    let count = port_count(kind, network.count_at(Part::Block(target), "ports"));
+    let ports = network.count_at(Part::Block(target), "ports");
+    let count = kind.unit().port_count(ports);
     if port < count {
         return Ok(());
     }

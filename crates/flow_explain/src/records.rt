@@ -10,7 +10,7 @@ use crate::explain::Answer;
 use crate::finding::Flaw;
 use crate::rows::{Rows, opens_quote};
 use flow_fault_text::{TextFault, TextRefusal};
-use flow_hints::Warning;
+use flow_hints::{Warning, quoted};
 use flow_link::Plan;
 use flow_places::Span;
 use flow_record_text::read_records;
@@ -26,7 +26,7 @@ pub fn explain_records(alloc: Global, plan: &Plan<Steps>, text: &[u8]) -> Result
 {
     match read_records(alloc, text, plan) {
         Ok(_posted) => {
-            let warnings = record_warnings(alloc, without_mark(text))?;
+            let warnings = record_warnings(alloc, plan, without_mark(text))?;
             Ok(Answer::Accepted(warnings))
         }
         Err(TextRefusal::Memory) => Err(AllocError),
@@ -42,50 +42,79 @@ pub fn explain_records(alloc: Global, plan: &Plan<Steps>, text: &[u8]) -> Result
     }
 }
 
-// What was hardly meant in records that are accepted.
-fn record_warnings(alloc: Global, text: &[u8]) -> Result<Vec<Warning>, AllocError> {
+// What was hardly meant in records that are accepted, in their order.
+fn record_warnings(
+    alloc: Global,
+    plan: &Plan<Steps>,
+    text: &[u8],
+) -> Result<Vec<Warning>, AllocError> {
+    let takers = takers_of_one(alloc, plan)?;
     let mut rows = Rows::new(alloc, text);
-    let seen = read_all(&mut rows)?;
-    warnings_of(alloc, text, seen)
+    let mut warnings = Vec::new(alloc);
+    let last = read_all(alloc, &mut rows, &takers, &mut warnings)?;
+    if opens_quote(text, last) {
+        let message = "the last record begins here, since a double quote in it is never closed.";
+        add_warning(alloc, &mut warnings, last, message)?;
+    }
+    Ok(warnings)
 }
 
-// What is seen of records: the first whose value begins with a blank, and where the last stands.
-#[derive(Clone, Copy)]
-struct Seen {
-    blank: Option<(u64, Span)>,
-    last: Span,
+// The names of the inputs that take one message in all.
+fn takers_of_one<'p>(alloc: Global, plan: &'p Plan<Steps>) -> Result<Vec<&'p str>, AllocError> {
+    let mut takers = Vec::new(alloc);
+    for number in 0..plan.block_count() {
+        let block = plan.block(number);
+        if block.input && block.kind.unit().copies_one() {
+            takers.push(block.name.as_str())?;
+        }
+    }
+    Ok(takers)
 }
 
-// Reads all records.
-fn read_all(rows: &mut Rows<'_>) -> Result<Seen, AllocError> {
-    let mut blank = None;
+// Reads all records, adds what was hardly meant in them, and answers where the last one stands.
+fn read_all(
+    alloc: Global,
+    rows: &mut Rows<'_>,
+    takers: &[&str],
+    warnings: &mut Vec<Warning>,
+) -> Result<Span, AllocError> {
+    let mut counts = vec![in alloc; 0u64; takers.len()]?;
     let mut last = Span::new(0, 0);
+    let mut has_blank = false;
     for number in 1..=u64::MAX {
         let Some(row) = rows.next_row()? else {
             break;
         };
         last = row.span;
-        if blank.is_none() && row.value_begins_blank {
-            blank = Some((number, row.span));
+        if row.value_begins_blank && !has_blank {
+            has_blank = true;
+            let message = format_args!(
+                "the value of record {number} begins with a blank, which is part of it."
+            );
+            add_warning(alloc, warnings, last, message)?;
+        }
+        let name = rows.field(0).unwrap_or(&[]);
+        if let Some(taker) = second_for(takers, &mut counts, name) {
+            let shown = quoted(alloc, taker)?;
+            let message = format_args!(
+                "record {number} is the second for {shown}, a write_once block, which takes one message in all: it waits for ever, and the status is 1 at best."
+            );
+            add_warning(alloc, warnings, last, message)?;
         }
     }
-    Ok(Seen { blank, last })
+    Ok(last)
 }
 
-// The warnings of records of which this is seen.
-fn warnings_of(alloc: Global, text: &[u8], seen: Seen) -> Result<Vec<Warning>, AllocError> {
-    let mut warnings = Vec::new(alloc);
-    if let Some((number, span)) = seen.blank {
-        let message = format_args!(
-            "the value of record {number} begins with a blank, which is part of it."
-        );
-        add_warning(alloc, &mut warnings, span, message)?;
+// Counts a record for the input of this name, and answers which it is where this is its second.
+fn second_for<'p>(takers: &[&'p str], counts: &mut [u64], name: &[u8]) -> Option<&'p str> {
+    for (place, taker) in takers.iter().enumerate() {
+        if taker.as_bytes() == name {
+            let count = counts.get_mut(place)?;
+            *count = count.saturating_add(1);
+            return if *count == 2 { Some(*taker) } else { None };
+        }
     }
-    if opens_quote(text, seen.last) {
-        let message = "the last record begins here, since a double quote in it is never closed.";
-        add_warning(alloc, &mut warnings, seen.last, message)?;
-    }
-    Ok(warnings)
+    None
 }
 
 fn add_warning<D: Display + Drop>(

@@ -69,8 +69,8 @@ fn home_of(key: &str) -> &'static str {
     }
 }
 
-// Whether a part has a key that may be this one, and is told as unknown.
-fn is_misspelt(
+/// Whether a part has a key that may be this one, and is told as unknown.
+pub(crate) fn is_misspelt(
     alloc: Global,
     network: Network<'_>,
     part: Part,
@@ -81,19 +81,11 @@ fn is_misspelt(
     };
     for other in table.keys() {
         let other = other.as_str();
-        if !knows(part, other) && is_nearest(alloc, other, key, key_names(part))? {
+        if !knows(part, other) && nearest(alloc, other, key_names(part))? == Some(key) {
             return Ok(true);
         }
     }
     Ok(false)
-}
-
-// Whether this key is the nearest to a word of these.
-fn is_nearest(alloc: Global, word: &str, key: &str, keys: &[&str]) -> Result<bool, AllocError> {
-    Ok(match nearest(alloc, word, keys)? {
-        Some(near) => near == key,
-        None => false,
-    })
 }
 
 /// Adds the keys that this part lacks.
@@ -166,25 +158,21 @@ fn add_misfit(
     }
 }
 
-// Whether a value is of this form.
-fn fits(form: Form, value: &Value) -> bool {
+/// Whether a value is of this form.
+pub(crate) fn fits(form: Form, value: &Value) -> bool {
     match form {
         Form::Boolean => value.is_bool(),
         Form::Integer => value.is_integer(),
-        Form::Count => is_count(value),
+        Form::Count => match value.as_integer() {
+            Some(number) => u32::try_from(number).is_ok(),
+            None => false,
+        },
         Form::Text => value.is_str(),
         Form::Kind => match value.as_str() {
             Some(word) => kind_named(word).is_some(),
             None => false,
         },
         Form::Texts | Form::Tables => value.is_array() && bad_item(form, value).is_none(),
-    }
-}
-
-fn is_count(value: &Value) -> bool {
-    match value.as_integer() {
-        Some(number) => u32::try_from(number).is_ok(),
-        None => false,
     }
 }
 

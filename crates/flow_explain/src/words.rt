@@ -183,22 +183,20 @@ fn add_trouble(
         Some((name, number)) => (name, Some(number)),
         None => (text.trim(), None),
     };
-    let why = match word_named(sort.words, name) {
-        Some(word) => Why::Known(Trouble { word, text, number }),
+    let shown = quoted(alloc, text)?;
+    let kind = sort.name;
+    let message = match word_named(sort.words, name) {
+        Some(word) => {
+            let trouble = Trouble { word, text, number };
+            format!(in alloc; "{shown} is no {kind}.{trouble}")?
+        }
         None => {
-            let names = Hint::OneOf(" There are", sort.names);
-            Why::Unknown(near_or(alloc, name, sort.names, names)?)
+            let all = Hint::OneOf(" There are", sort.names);
+            let hint = near_or(alloc, name, sort.names, all)?;
+            format!(in alloc; "{shown} is no {kind}.{hint}")?
         }
     };
-    let sort = sort.name;
-    let shown = quoted(alloc, text)?;
-    add_flaw(
-        alloc,
-        flaws,
-        fault,
-        span,
-        format_args!("{shown} is no {sort}.{why}"),
-    )
+    add_flaw(alloc, flaws, fault, span, message)
 }
 
 // The word with this name.
@@ -209,24 +207,6 @@ fn word_named(words: &'static [Word], name: &str) -> Option<&'static Word> {
         }
     }
     None
-}
-
-// Why a text is no word of a sort.
-#[derive(Clone, Copy)]
-enum Why<'t> {
-    /// It begins with a word of the sort.
-    Known(Trouble<'t>),
-    /// It begins with no such word.
-    Unknown(Hint<'t>),
-}
-
-impl fmt::Display for Why<'_> {
-    fn fmt<W: fmt::Write>(&self, f: &mut fmt::Formatter<W>) -> fmt::Result {
-        match self {
-            Why::Known(trouble) => write!(f, "{trouble}"),
-            Why::Unknown(hint) => write!(f, "{hint}"),
-        }
-    }
 }
 
 // A text that begins with a word and is none: the word, and what stands behind it and a blank.

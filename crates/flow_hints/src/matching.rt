@@ -1,5 +1,5 @@
 //! Whether the messages at the ports of a join belong together by their places.
-use crate::ways::{Way, Ways};
+use crate::ways::{Way, Ways, is_any};
 use flow_link::{BlockKind, BlockUnit};
 use std::alloc::{AllocError, Global};
 
@@ -44,7 +44,7 @@ fn only_way(into: &[Way], port: u32) -> Option<Way> {
 
 // Whether all that a link's source gives crosses the link.
 fn is_whole(ways: &Ways<'_>, way: Way) -> bool {
-    if !way.admits_all() {
+    if !is_any(way.when) || way.max.is_some() {
         return false;
     }
     if ways.copies(way.source) {

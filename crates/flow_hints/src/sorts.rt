@@ -1,5 +1,8 @@
 //! Which sorts of values go through a network: numbers, texts, rows.
-use crate::ways::{Way, Ways};
+ghost use Rattle.std.specs.Prelude.{IfSome, IsTrue};
+ghost use Rattle.flow_hints.specs.Told.{FaultsAtEach};
+
+use crate::ways::{Way, Ways, port_count};
 use flow_link::{BlockDef, BlockUnit};
 use flow_value::{Step, Steps, When};
 use std::alloc::{AllocError, Global};
@@ -10,36 +13,43 @@ pub(crate) struct Sorts {
     pub(crate) numbers: bool,
     pub(crate) texts: bool,
     pub(crate) rows: bool,
+    /// How many items a row has at most, where that is known.
+    pub(crate) most_items: Option<u32>,
 }
 
 const NONE: Sorts = Sorts {
     numbers: false,
     texts: false,
     rows: false,
+    most_items: None,
 };
 
 const ALL: Sorts = Sorts {
     numbers: true,
     texts: true,
     rows: true,
+    most_items: None,
 };
 
 const NUMBERS: Sorts = Sorts {
     numbers: true,
     texts: false,
     rows: false,
+    most_items: None,
 };
 
 const TEXTS: Sorts = Sorts {
     numbers: false,
     texts: true,
     rows: false,
+    most_items: None,
 };
 
 const ROWS: Sorts = Sorts {
     numbers: false,
     texts: false,
     rows: true,
+    most_items: None,
 };
 
 impl Sorts {
@@ -49,20 +59,25 @@ impl Sorts {
     }
 
     fn differ(self, other: Sorts) -> bool {
-        self.numbers != other.numbers || self.texts != other.texts || self.rows != other.rows
+        self.numbers != other.numbers
+            || self.texts != other.texts
+            || self.rows != other.rows
+            || self.most_items != other.most_items
     }
 
     fn with(self, other: Sorts) -> Sorts {
+        let most_items = match (self.most_items, other.most_items) {
+            _ if !self.rows => other.most_items,
+            _ if !other.rows => self.most_items,
+            (Some(one), Some(other)) => Some(one.max(other)),
+            (Some(_), None) | (None, _) => None,
+        };
         Sorts {
             numbers: self.numbers || other.numbers,
             texts: self.texts || other.texts,
             rows: self.rows || other.rows,
+            most_items,
         }
-    }
-
-    // These sorts where the flag is set, else none.
-    fn where_true(self, flag: bool) -> Sorts {
-        if flag { self } else { NONE }
     }
 
     /// The sorts, in words.
@@ -80,18 +95,40 @@ impl Sorts {
     }
 }
 
-/// What a step may give for values of these sorts; none where it faults at each of them.
-pub(crate) fn after_step(step: Step, sorts: Sorts) -> Sorts {
+// Whether it is sure that a step faults at each value of these sorts.
+fn faults_at_each(step: Step, sorts: Sorts) -> bool
+    ensures { IsTrue result → FaultsAtEach step sorts }
+{
     match step {
+        Step::Id | Step::Repeat(_) => false,
+        Step::ToInt | Step::ToText => !sorts.numbers && !sorts.texts,
+        Step::Add(_) | Step::Mul(_) | Step::Reject(_) | Step::Upto => !sorts.numbers,
+        Step::Field(item) => match sorts.most_items {
+            Some(most) => !sorts.rows || most <= u32::from(item),
+            None => !sorts.rows,
+        },
+        Step::Len => !sorts.texts && !sorts.rows,
+        Step::Sum | Step::Spread => !sorts.rows,
+    }
+}
+
+// What a step may give for values of these sorts.
+fn after_step(step: Step, sorts: Sorts) -> Sorts {
+    if faults_at_each(step, sorts) {
+        return NONE;
+    }
+    match step {
+        Step::Repeat(0) => NONE,
         Step::Id | Step::Repeat(_) => sorts,
-        Step::ToInt => NUMBERS.where_true(sorts.numbers || sorts.texts),
-        Step::ToText => TEXTS.where_true(sorts.numbers || sorts.texts),
-        Step::Add(_) | Step::Mul(_) | Step::Reject(_) | Step::Upto => {
-            NUMBERS.where_true(sorts.numbers)
-        }
-        Step::Field(_) | Step::Spread => ALL.where_true(sorts.rows),
-        Step::Len => NUMBERS.where_true(sorts.texts || sorts.rows),
-        Step::Sum => NUMBERS.where_true(sorts.rows),
+        Step::ToInt
+        | Step::Add(_)
+        | Step::Mul(_)
+        | Step::Len
+        | Step::Sum
+        | Step::Reject(_)
+        | Step::Upto => NUMBERS,
+        Step::ToText => TEXTS,
+        Step::Field(_) | Step::Spread => ALL,
     }
 }
 
@@ -103,9 +140,32 @@ fn after_steps(steps: &[Step], sorts: Sorts) -> Sorts {
     sorts
 }
 
+/// A step that faults at each value that comes to it, and of which sorts those are.
+#[derive(Clone, Copy)]
+pub(crate) struct Faulting {
+    pub(crate) at: usize,
+    pub(crate) step: Step,
+    pub(crate) sorts: Sorts,
+}
+
+/// The first of these steps that surely faults at each value that comes to it, where values of these sorts come to the first.
+pub(crate) fn faulting_step(steps: &[Step], sorts: Sorts) -> Option<Faulting>
+    ensures { IfSome result (λ found. FaultsAtEach found.step found.sorts) }
+{
+    let mut sorts = sorts;
+    for (at, step) in steps.iter().enumerate() {
+        let step = *step;
+        if !sorts.is_none() && faults_at_each(step, sorts) {
+            return Some(Faulting { at, step, sorts });
+        }
+        sorts = after_step(step, sorts);
+    }
+    None
+}
+
 // What a block may give where these sorts come into it.
 fn given(block: &BlockDef<Steps>, sorts: Sorts) -> Sorts {
-    if block.kind.gives_nothing() {
+    if block.kind.gives_nothing() || sorts.is_none() {
         return NONE;
     }
     match block.kind.unit() {
@@ -113,7 +173,14 @@ fn given(block: &BlockDef<Steps>, sorts: Sorts) -> Sorts {
             Some(steps) => after_steps(steps.as_slice(), sorts),
             None => sorts,
         },
-        BlockUnit::Row | BlockUnit::Tuple | BlockUnit::Group => ROWS.where_true(!sorts.is_none()),
+        BlockUnit::Row => Sorts {
+            most_items: block.size,
+            ..ROWS
+        },
+        BlockUnit::Tuple | BlockUnit::Group => Sorts {
+            most_items: Some(port_count(block)),
+            ..ROWS
+        },
         BlockUnit::Copy | BlockUnit::OneCopy => sorts,
     }
 }
@@ -123,7 +190,7 @@ fn crossing(way: Way, sorts: Sorts) -> Sorts {
     match way.when {
         When::Any => sorts,
         When::Even | When::Odd | When::Lt(_) | When::Ge(_) | When::Eq(_) => {
-            NUMBERS.where_true(sorts.numbers)
+            if sorts.numbers { NUMBERS } else { NONE }
         }
     }
 }
@@ -131,8 +198,8 @@ fn crossing(way: Way, sorts: Sorts) -> Sorts {
 /// The sorts of values that may come into each block and that it may give.
 #[derive(Drop)]
 pub(crate) struct Flow {
-    pub(crate) coming: Vec<Sorts>,
-    pub(crate) given: Vec<Sorts>,
+    coming: Vec<Sorts>,
+    given: Vec<Sorts>,
 }
 
 impl Flow {

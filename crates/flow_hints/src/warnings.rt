@@ -1,9 +1,12 @@
 //! What was hardly meant in a network that is accepted.
+ghost use Rattle.std.specs.Prelude.{IfSome};
+ghost use Rattle.flow_hints.specs.Told.{AdmitsNoMore};
+
 use crate::matching::belongs_together;
 use crate::near::quoted;
-use crate::sorts::{Flow, after_step, flow_of};
-use crate::ways::{Way, Ways, is_any, port_count, ways_of};
-use flow_link::{BlockDef, BlockUnit, Plan};
+use crate::sorts::{Faulting, Flow, faulting_step, flow_of};
+use crate::ways::{Way, Ways, admits_no_more, is_any, port_count, ways_of};
+use flow_link::{BlockDef, Plan};
 use flow_places::{Part, Places, Span, item_span, places_in};
 use flow_value::{Step, Steps, When};
 use std::alloc::{AllocError, Global};
@@ -100,19 +103,19 @@ impl<'a, 'p> Look<'a, 'p> {
     ) -> Result<(), AllocError> {
         let into = self.ways.into_block(self.alloc, number)?;
         let out = self.ways.out_of(self.alloc, number)?;
-        if into.is_empty() && !block.input {
+        if block.input {
+            // an input is told of its end from outside, and has one port
+        } else if into.is_empty() {
             self.add_nothing_in(number, warnings)?;
         } else {
-            self.add_open_ports(number, block, into.as_slice(), warnings)?;
+            self.add_ports(number, block, into.as_slice(), warnings)?;
         }
         if out.is_empty() && !block.kind.gives_nothing() {
             self.add_nothing_out(number, warnings)?;
         }
-        if !block.input {
-            self.add_no_end(number, block, into.as_slice(), warnings)?;
-        }
         self.add_all_limited(number, out.as_slice(), warnings)?;
         self.add_matching(number, block, into.as_slice(), warnings)?;
+        self.add_idle_lanes(number, block, warnings)?;
         self.add_faulting_step(number, block, warnings)
     }
 
@@ -126,61 +129,39 @@ impl<'a, 'p> Look<'a, 'p> {
 
     fn add_nothing_out(&self, block: usize, warnings: &mut Vec<Warning>) -> Result<(), AllocError> {
         let title = self.title(block)?;
-        let message = if self.ways.copies(block) {
-            format!(in self.alloc; "nothing leads out of {title}: what it takes goes nowhere.")?
+        let what = if self.ways.copies(block) {
+            "what it takes goes nowhere"
         } else {
-            format!(in self.alloc;
-                "nothing leads out of {title}: what it makes stays there, and it is never done."
-            )?
+            "what it makes stays there, and once it has made something it is never done"
         };
+        let message = format!(in self.alloc; "nothing leads out of {title}: {what}.")?;
         add_warning(warnings, self.span_of(Part::Block(block)), message)
     }
 
-    // Adds the ports to which no link leads.
-    fn add_open_ports(
+    // Adds the ports to which no link leads, and those that are not surely told of the end.
+    fn add_ports(
         &self,
         number: usize,
         block: &BlockDef<Steps>,
         into: &[Way],
         warnings: &mut Vec<Warning>,
     ) -> Result<(), AllocError> {
-        let count = port_count(block);
-        if count < 2 {
-            return Ok(());
+        let unit = block.kind.unit();
+        let title = self.title(number)?;
+        for port in 0..port_count(block) {
+            let ways = self.to_port(into, port)?;
+            if ways.is_empty() {
+                self.add_open_port(number, port, unit.makes_groups(), warnings)?;
+            } else if unit.makes_groups() {
+                let whom = format!(in self.alloc; "port {port} of {title}")?;
+                self.add_no_end(whom.as_str(), ways.as_slice(), warnings)?;
+            }
         }
-        for port in 0..count {
-            if leads_to(into, port) {
-                continue;
-            }
-            let title = self.title(number)?;
-            let message = format!(in self.alloc;
-                "no link leads to port {port} of {title}: without it there is no row."
-            )?;
-            add_warning(warnings, self.span_of(Part::Block(number)), message)?;
-        }
-        Ok(())
-    }
-
-    // Adds that no end, or only one that may be cut, is handed on to a block.
-    fn add_no_end(
-        &self,
-        number: usize,
-        block: &BlockDef<Steps>,
-        into: &[Way],
-        warnings: &mut Vec<Warning>,
-    ) -> Result<(), AllocError> {
-        match block.kind.unit() {
-            BlockUnit::OneCopy => Ok(()),
-            BlockUnit::Group => {
-                for port in 0..port_count(block) {
-                    let ways = self.to_port(into, port)?;
-                    self.add_no_end_among(number, ways.as_slice(), warnings)?;
-                }
-                Ok(())
-            }
-            BlockUnit::Message | BlockUnit::Row | BlockUnit::Tuple | BlockUnit::Copy => {
-                self.add_no_end_among(number, into, warnings)
-            }
+        // the end at one port may be enough for a join, and a write_once block needs none
+        if unit.makes_groups() || unit.copies_one() {
+            Ok(())
+        } else {
+            self.add_no_end(title.as_str(), into, warnings)
         }
     }
 
@@ -195,30 +176,60 @@ impl<'a, 'p> Look<'a, 'p> {
         Ok(ways)
     }
 
-    fn add_no_end_among(
+    // Adds that no link leads to a port of a block that makes groups of what comes, or else tuples.
+    fn add_open_port(
         &self,
         block: usize,
+        port: u32,
+        makes_groups: bool,
+        warnings: &mut Vec<Warning>,
+    ) -> Result<(), AllocError> {
+        let title = self.title(block)?;
+        let what = if makes_groups {
+            "its part of each row is empty, and the block never completes"
+        } else {
+            "without it there is no row"
+        };
+        let message = format!(in self.alloc; "no link leads to port {port} of {title}: {what}.")?;
+        add_warning(warnings, self.span_of(Part::Block(block)), message)
+    }
+
+    // Adds that no end, or only one that may be cut, is handed on over these links to a block or a port.
+    fn add_no_end(
+        &self,
+        whom: &str,
         into: &[Way],
         warnings: &mut Vec<Warning>,
     ) -> Result<(), AllocError> {
+        let mut handing: Option<Way> = None;
+        let mut limits = "a link with \"max\": once that is reached";
+        for way in into {
+            if !way.propagate {
+                continue;
+            }
+            if way.max.is_none() {
+                return Ok(());
+            }
+            if handing.is_some() {
+                limits = "links with \"max\": once each has reached its own";
+            } else {
+                handing = Some(*way);
+            }
+        }
+        if let Some(way) = handing {
+            let message = format!(in self.alloc;
+                "the end is handed on to {whom} only over {limits}, the block never completes."
+            )?;
+            let span = self.value_span(Part::Link(way.link), "max");
+            return add_warning(warnings, span, message);
+        }
         let Some(first) = into.first() else {
             return Ok(());
         };
-        let title = self.title(block)?;
-        let Some(handing) = first_handing_on(into) else {
-            let message = format!(in self.alloc;
-                "no link hands its end on to {title}: without \"propagate = true\" at one it never completes."
-            )?;
-            return add_warning(warnings, self.span_of(Part::Link(first.link)), message);
-        };
-        if hands_on_surely(into) {
-            return Ok(());
-        }
         let message = format!(in self.alloc;
-            "the end is handed on to {title} only over a link with \"max\": once that is reached, it never completes."
+            "no link hands its end on to {whom}: without \"propagate = true\" at one the block never completes."
         )?;
-        let span = self.value_span(Part::Link(handing.link), "max");
-        add_warning(warnings, span, message)
+        add_warning(warnings, self.span_of(Part::Link(first.link)), message)
     }
 
     // Adds that each link out of a block lets only some messages through.
@@ -231,10 +242,8 @@ impl<'a, 'p> Look<'a, 'p> {
         let Some(first) = out.first() else {
             return Ok(());
         };
-        if self.ways.copies(block) || admits_anything(out) {
-            return Ok(());
-        }
-        if admits_each_number(out) && self.gives_numbers_alone(block) {
+        let given = self.flow.out_of(block);
+        if self.ways.copies(block) || admit_all(out, !given.texts && !given.rows) {
             return Ok(());
         }
         let title = self.title(block)?;
@@ -243,11 +252,6 @@ impl<'a, 'p> Look<'a, 'p> {
         )?;
         let span = self.value_span(Part::Link(first.link), "when");
         add_warning(warnings, span, message)
-    }
-
-    fn gives_numbers_alone(&self, block: usize) -> bool {
-        let given = self.flow.out_of(block);
-        !given.texts && !given.rows
     }
 
     // Adds that a join matches by places what may not belong together.
@@ -272,7 +276,28 @@ impl<'a, 'p> Look<'a, 'p> {
         add_warning(warnings, self.span_of(Part::Block(number)), message)
     }
 
-    // Adds the step of a function that faults at each message.
+    // Adds that a block has more lanes than it may ever have messages.
+    fn add_idle_lanes(
+        &self,
+        number: usize,
+        block: &BlockDef<Steps>,
+        warnings: &mut Vec<Warning>,
+    ) -> Result<(), AllocError> {
+        let (Some(lanes), Some(capacity)) = (block.lanes, block.capacity) else {
+            return Ok(());
+        };
+        if lanes <= capacity {
+            return Ok(());
+        }
+        let title = self.title(number)?;
+        let message = format!(in self.alloc;
+            "{title} has {lanes} lanes and a capacity of {capacity}: no more than {capacity} are ever at work at one time."
+        )?;
+        let span = self.value_span(Part::Block(number), "lanes");
+        add_warning(warnings, span, message)
+    }
+
+    // Adds the step of a function that faults at each value.
     fn add_faulting_step(
         &self,
         number: usize,
@@ -282,142 +307,107 @@ impl<'a, 'p> Look<'a, 'p> {
         let Some(steps) = &block.work else {
             return Ok(());
         };
-        let Some(at) = self.faulting_step(number, steps.as_slice()) else {
+        let coming = self.flow.into_block(number);
+        let Some(found) = faulting_step(steps.as_slice(), coming) else {
             return Ok(());
         };
         let title = self.title(number)?;
+        let Faulting { at, step, sorts } = found;
+        let why = match (step, sorts.most_items) {
+            (Step::Field(item), Some(most)) if sorts.rows => format!(in self.alloc;
+                "no row there has an item {item}, since items count from 0 and there are {most} at most"
+            )?,
+            _ => {
+                let words = sorts.words();
+                format!(in self.alloc; "it does not take {words}")?
+            }
+        };
         let message = format!(in self.alloc;
-            "step {at} of {title} faults at each message: it does not take what comes to it."
+            "step {at} of {title} faults at each value that comes to it: {why}."
         )?;
         let work = self.value_span(Part::Block(number), "work");
         let item = item_span(self.alloc, self.text, work, at)?;
         add_warning(warnings, item.unwrap_or(work), message)
     }
 
-    fn faulting_step(&self, block: usize, steps: &[Step]) -> Option<usize> {
-        let mut sorts = self.flow.into_block(block);
-        for (at, step) in steps.iter().enumerate() {
-            let after = after_step(*step, sorts);
-            if after.is_none() && !sorts.is_none() {
-                return Some(at);
-            }
-            sorts = after;
-        }
-        None
-    }
-
-    // What is to be said of a link.
+    // What is to be said of a link, unless it is there for its end alone.
     fn add_way(&self, way: Way, warnings: &mut Vec<Warning>) -> Result<(), AllocError> {
+        if self.only_hands_on(way) {
+            return Ok(());
+        }
         let given = self.flow.out_of(way.source);
+        let link = way.link;
         if !is_any(way.when) && !given.numbers && !given.is_none() {
             let title = self.title(way.source)?;
             let words = given.words();
-            let link = way.link;
             let message = format!(in self.alloc;
                 "nothing crosses link {link}: its \"when\" admits numbers alone, and {title} gives {words}."
             )?;
-            let span = self.value_span(Part::Link(way.link), "when");
+            let span = self.value_span(Part::Link(link), "when");
             return add_warning(warnings, span, message);
         }
-        if let Some(first) = self.takes_all_before(way) {
-            let title = self.title(way.source)?;
-            let (link, first) = (way.link, first.link);
-            let message = format!(in self.alloc;
-                "nothing crosses link {link} while link {first} is open: that one comes first and takes all that {title} gives."
-            )?;
-            add_warning(warnings, self.span_of(Part::Link(way.link)), message)?;
-        }
-        Ok(())
+        let Some(first) = self.takes_all_before(way) else {
+            return Ok(());
+        };
+        let before = first.link;
+        let message = format!(in self.alloc;
+            "nothing crosses link {link} while link {before} is open: that one comes first and takes all that this one admits."
+        )?;
+        add_warning(warnings, self.span_of(Part::Link(link)), message)
     }
 
-    // A link of the same source in front of this one that takes all.
-    fn takes_all_before(&self, way: Way) -> Option<Way> {
+    // Whether a link may be there to hand its end on to a port that gets messages of the same source over another.
+    fn only_hands_on(&self, way: Way) -> bool {
+        for other in &self.ways.ways {
+            let is_beside = other.source == way.source
+                && other.target == way.target
+                && other.port == way.port
+                && other.link != way.link;
+            if way.propagate && is_beside {
+                return true;
+            }
+        }
+        false
+    }
+
+    // A link of the same source in front of this one that takes, while it is open, all that this one admits.
+    fn takes_all_before(&self, way: Way) -> Option<Way>
+        ensures { IfSome result (λ first. AdmitsNoMore way.when first.when) }
+    {
         if self.ways.copies(way.source) {
             return None;
         }
-        for other in &self.ways.ways {
-            if other.source == way.source && other.link < way.link && self.takes_all(*other) {
-                return Some(*other);
+        for first in &self.ways.ways {
+            let is_before = first.source == way.source
+                && first.link < way.link
+                && first.max.is_none()
+                && self.ways.takes_at_once(first.target);
+            if is_before && admits_no_more(way.when, first.when) {
+                return Some(*first);
             }
         }
         None
     }
-
-    fn takes_all(&self, way: Way) -> bool {
-        way.admits_all() && self.ways.takes_at_once(way.target)
-    }
 }
 
-// Whether one of these links leads to this port.
-fn leads_to(into: &[Way], port: u32) -> bool {
-    for way in into {
-        if way.port == port {
-            return true;
-        }
-    }
-    false
-}
-
-// The first of these links that hands its end on.
-fn first_handing_on(into: &[Way]) -> Option<Way> {
-    for way in into {
-        if way.propagate {
-            return Some(*way);
-        }
-    }
-    None
-}
-
-// Whether one of these links hands its end on and is never cut.
-fn hands_on_surely(into: &[Way]) -> bool {
-    for way in into {
-        if way.propagate && way.max.is_none() {
-            return true;
-        }
-    }
-    false
-}
-
-// Whether one of these links admits each message.
-fn admits_anything(out: &[Way]) -> bool {
-    for way in out {
-        if is_any(way.when) {
-            return true;
-        }
-    }
-    false
-}
-
-// Whether each number is admitted by one of these links.
-fn admits_each_number(out: &[Way]) -> bool {
-    let mut even = false;
-    let mut odd = false;
+// Whether it is sure that each value is admitted by one of these links, or each number where numbers alone come.
+fn admit_all(out: &[Way], are_numbers: bool) -> bool {
+    let (mut even, mut odd) = (false, false);
+    // the numbers below the one are admitted, and those from the other on
+    let (mut below, mut from): (Option<i64>, Option<i64>) = (None, None);
     for way in out {
         match way.when {
+            When::Any => return true,
             When::Even => even = true,
             When::Odd => odd = true,
-            When::Lt(low) => {
-                if admits_all_from(out, low) {
-                    return true;
-                }
-            }
-            When::Any | When::Ge(_) | When::Eq(_) => {}
+            When::Lt(bound) => below = Some(bound.max(below.unwrap_or(bound))),
+            When::Ge(bound) => from = Some(bound.min(from.unwrap_or(bound))),
+            When::Eq(_) => {}
         }
     }
-    even && odd
-}
-
-// Whether one of these links admits each number from here on.
-fn admits_all_from(out: &[Way], low: i64) -> bool {
-    for way in out {
-        match way.when {
-            When::Ge(bound) => {
-                if bound <= low {
-                    return true;
-                }
-            }
-            When::Any | When::Even | When::Odd | When::Lt(_) | When::Eq(_) => {}
-        }
-    }
-    false
+    let meet = match (below, from) {
+        (Some(below), Some(from)) => from <= below,
+        _ => false,
+    };
+    are_numbers && ((even && odd) || meet)
 }

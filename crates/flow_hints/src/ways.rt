@@ -1,4 +1,10 @@
 //! A plan as its blocks and the links between them.
+ghost use Rattle.std.specs.Prelude.{◌≡◌, IsTrue};
+ghost use Rattle.flow_value.specs.When.{admits};
+ghost use Rattle.flow_value.specs.declared.value.Value.TheVariants.{Int};
+ghost use Rattle.flow_value.specs.declared.when.When.TheVariants.{Any};
+ghost use Rattle.flow_hints.specs.Told.{AdmitsNoMore};
+
 use flow_link::{BlockDef, LinkSource, LinkTarget, Plan};
 use flow_value::{Steps, When};
 use std::alloc::{AllocError, Global};
@@ -15,18 +21,49 @@ pub(crate) struct Way {
     pub(crate) propagate: bool,
 }
 
-impl Way {
-    /// Whether each message may cross the link, as often as it likes.
-    pub(crate) fn admits_all(self) -> bool {
-        is_any(self.when) && self.max.is_none()
-    }
-}
-
 /// Whether a predicate admits each message.
-pub(crate) fn is_any(when: When) -> bool {
+pub(crate) fn is_any(when: When) -> bool
+    ensures { IsTrue result → when ≡ Any }
+{
     match when {
         When::Any => true,
         When::Even | When::Odd | When::Lt(_) | When::Ge(_) | When::Eq(_) => false,
+    }
+}
+
+/// Whether it is sure that the later of two predicates admits no value that the earlier one does not admit.
+pub(crate) fn admits_no_more(later: When, earlier: When) -> bool
+    ensures { IsTrue result → AdmitsNoMore later earlier }
+{
+    match later {
+        When::Any => is_any(earlier),
+        When::Eq(number) => admits_number(earlier, number),
+        When::Even => matches!(earlier, When::Any | When::Even),
+        When::Odd => matches!(earlier, When::Any | When::Odd),
+        When::Lt(bound) => match earlier {
+            When::Any => true,
+            When::Lt(other) => bound <= other,
+            When::Even | When::Odd | When::Ge(_) | When::Eq(_) => false,
+        },
+        When::Ge(bound) => match earlier {
+            When::Any => true,
+            When::Ge(other) => other <= bound,
+            When::Even | When::Odd | When::Lt(_) | When::Eq(_) => false,
+        },
+    }
+}
+
+// Whether a predicate admits this number.
+fn admits_number(when: When, number: i64) -> bool
+    ensures { result ≡ admits when (Int number) }
+{
+    match when {
+        When::Any => true,
+        When::Even => number % 2 == 0,
+        When::Odd => number % 2 != 0,
+        When::Lt(bound) => number < bound,
+        When::Ge(bound) => bound <= number,
+        When::Eq(other) => number == other,
     }
 }
 

@@ -114,11 +114,29 @@ net:4:9: error: messages could go round for ever: "a" to "a".
 net:4:38: error: "max" of link 0 is 0, and is to be 1 to 2147483647.
 case block = [{nmae = "a", kind = "buffer"}] ; link = [{from = "a", to = "a"}]
 net:2:11: error: block 0 has a key "nmae", which blocks do not have. Did you mean "name"?
+case [[blocks]] ; name = "in" ; kind = "buffer" ; input = true ; [[blocks]] ; name = "out" ; kind = "action" ; work = [] ; [[link]] ; from = "in" ; to = "out"
+net:2:3: error: the network has a key "blocks", which networks do not have. Did you mean "block"?
+case [[block]] ; name = "in" ; kind = "buffer" ; input = true ; [[blocks]] ; name = "out" ; kind = "action" ; work = [] ; [[link]] ; from = "in" ; to = "out"
+net:6:3: error: the network has a key "blocks", which networks do not have. Did you mean "block"?
+case [block] ; name = "in" ; kind = "buffer" ; input = true ; [[link]] ; from = "in" ; to = "out"
+net:2:1: error: "block" of the network is to be an array of tables, each under a header in double brackets, and is a table.
+case block = [{name = "a", kind = "action", work = ["ad 1", "if", "'add' 1", "\"len\"", " int\t"]}]
+net:2:48: error: "ad 1" is no step. Did you mean "add"?
+net:2:56: error: "if" is no step. There are id, int, text, add, mul, field, len, sum, reject, spread, upto, repeat.
+net:2:62: error: "'add' 1" is no step. Did you mean "add"?
+net:2:73: error: "\"len\"" is no step. Did you mean "len"?
+net:2:84: error: " int\t" is no step. Write "int" without a blank in front of it or behind it.
+case block = [{name = "d", kind = "buffer"}, {name = "e", kind = "action", work = []}] ; link = [{from = "d\t", to = "'e", when = "gt 5"}, {from = "d", to = "f", when = "le 5"}]
+net:3:42: error: "gt 5" is no predicate. There are any, even, odd, lt, ge, eq.
+net:3:17: error: link 0 comes from "d\t", and no block has that name. Did you mean "d"?
+net:3:29: error: link 0 leads to "'e", and no block has that name. Did you mean "e"?
+net:3:69: error: link 1 leads to "f", and no block has that name.
+net:3:81: error: "le 5" is no predicate. There are any, even, odd, lt, ge, eq.
 "#;
 
 #[test]
 fn hints_are_printed(rt: HostRuntime) -> Result<(), Fail> {
-    has_cases(&rt, SHORT, 14);
+    has_cases(&rt, SHORT, 19);
     for case in SHORT.split("\ncase ").skip(1) {
         let (lines, wanted) = head_and_lines(case);
         let text = lines_of(rt.alloc(), lines)?;

@@ -45,8 +45,12 @@ case in,1~in ,2~
 rec:2:1: error: record 2 is for \"in \", and no input has that name. A blank beside a name is part of it.
 case in,1~out,2~
 rec:2:1: error: record 2 is for \"out\", and no input has that name. The block has that name, and lacks \"input = true\".
-case in,\"1~2\"~im,2~
-rec:3:1: error: record 2 is for \"im\", and no input has that name. Did you mean \"in\"?
+case in,\"1~2\"~inn,2~
+rec:3:1: error: record 2 is for \"inn\", and no input has that name. Did you mean \"in\"?
+case im,1~
+rec:1:1: error: record 1 is for \"im\", and no input has that name. The only input is \"in\".
+case 'in',1~
+rec:1:1: error: record 1 is for \"'in'\", and no input has that name. Did you mean \"in\"?
 case in,1~in,caf\u{e9}~
 rec:2:7: error: record 2 is no UTF-8 at the byte e9, which is '\u{e9}' in Latin-1; store it as UTF-8.
 case \u{ff}\u{fe}i\u{0}n\u{0},\u{0}1\u{0}~\u{0}
@@ -63,21 +67,55 @@ rec:2:1: warning: the value of record 2 begins with a blank, which is part of it
 
 #[test]
 fn causes_are_told_with_their_lines(rt: HostRuntime) -> Result<(), Fail> {
-    has_cases(&rt, RECORDS, 19);
+    has_cases(&rt, RECORDS, 21);
     for case in RECORDS.split("\ncase ").skip(1) {
         let (words, wanted) = head_and_lines(case);
-        let told = told_of(rt.alloc(), &bytes_of(&rt, rt.alloc(), words))?;
+        let told = told_of(rt.alloc(), NETWORK, &bytes_of(&rt, rt.alloc(), words))?;
+        begins(&rt, case, told.as_str(), wanted);
+    }
+    Ok(())
+}
+
+/// Two inputs that take one message in all, and one that takes as many as come.
+const TAKERS: &str = r#"format = 1
+block = [
+    {name = "one", kind = "write_once", input = true},
+    {name = "two", kind = "write_once", input = true},
+    {name = "in", kind = "buffer", input = true},
+    {name = "out", kind = "action", work = []},
+]
+link = [
+    {from = "one", to = "out", propagate = true},
+    {from = "two", to = "out", propagate = true},
+    {from = "in", to = "out", propagate = true},
+]
+"#;
+
+/// Cases as in `RECORDS`, of those inputs.
+const SECONDS: &str = "
+case one,1~two,1~in,1~in,2~
+case one,1~in,1~one,2~one,3~two,1~\"two\",2~
+rec:3:1: warning: record 3 is the second for \"one\", a write_once block, which takes one message in all: it waits for ever, and the status is 1 at best.
+rec:6:1: warning: record 6 is the second for \"two\", a write_once block, which takes one message in all: it waits for ever, and the status is 1 at best.
+";
+
+#[test]
+fn second_records_are_told(rt: HostRuntime) -> Result<(), Fail> {
+    has_cases(&rt, SECONDS, 2);
+    for case in SECONDS.split("\ncase ").skip(1) {
+        let (words, wanted) = head_and_lines(case);
+        let told = told_of(rt.alloc(), TAKERS, &bytes_of(&rt, rt.alloc(), words))?;
         begins(&rt, case, told.as_str(), wanted);
     }
     Ok(())
 }
 
 /// What is printed of these records in the short style.
-fn told_of(alloc: Global, text: &[u8]) -> Result<String, Fail> {
+fn told_of(alloc: Global, network: &str, text: &[u8]) -> Result<String, Fail> {
     let mut out = Vec::new(alloc);
     let network = Source {
         name: "net",
-        text: NETWORK.as_bytes(),
+        text: network.as_bytes(),
     };
     let records = Source { name: "rec", text };
     check_both(alloc, network, records, Style::Short, &mut out)?;
