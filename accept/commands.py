@@ -33,6 +33,9 @@ PREPARED = [
     "bin/flow_run examples/tours.toml 1 < examples/tours.csv > tours.report",
     "cp examples/import.toml network.toml",
     "cp examples/import.csv records.csv",
+    # Two inputs with other orders of keys; a key that one of them does not have.
+    r"printf 'a,orders,10\nb,orders,20\nb,payments,20\na,payments,10\n' > keys.csv",
+    "{ cat keys.csv; echo c,payments,30; } > partly.csv",
     # One message is missing that a block took, though it crossed the link to it.
     "sed '/^block order_numbers/,/^held/s/,\"1002\"//' import.report > damaged.report",
     # More than there is memory for, where there is little.
@@ -49,6 +52,11 @@ LITTLE = "ulimit -v 200000"
 DAMAGED = "the report is damaged: order_numbers did not take at port 0 what its links gave"
 
 FORM = """printf 'format = 1\\nblock = []\\n[[link]]\\nform = "a"\\nto = "b"\\n'"""
+
+# Orders of 99 keys, payments in another order, and an order without one.
+KEYED = """cp examples/matches.toml network.toml
+{ seq 1 99 | sed 's/.*/k&,orders,&/'; echo k0,orders,5; seq 99 -1 1 | sed 's/.*/k&,payments,&/'; } > keyed.csv
+rm alone.csv"""
 
 # Of each command of `flow` a call that does what it is for, and one that is refused.
 FLOW = [
@@ -128,6 +136,34 @@ FLOW = [
         "",
         "flow: examples/import.csv: record 1 is not a key, an input and a value",
     ),
+    Case(
+        "bin/flow split 1 --by-key keys.csv",
+        2,
+        "",
+        'flow: keys.csv: keys differ, see --align: "a" of "orders" (line 1), "b" of "payments" (line 3)',
+    ),
+    Case("test -e keys.csv.1", 1),
+    Case("bin/flow split 1 --by-key --align keys.csv", 0, "keys.csv.1"),
+    Case("cat keys.csv.1", 0, "orders,10\npayments,10\norders,20\npayments,20\n"),
+    Case("bin/flow_run examples/matches.toml 1 < keys.csv.1 > keys.report", 0),
+    Case("bin/flow merge examples/matches.toml keys.report | bin/flow results -", 0, "balances,0\nbalances,0\n"),
+    Case("bin/flow split 2 --by-key --align partly.csv", 2, "", 'flow: partly.csv: no partner, see --unmatched: "c" of "payments" (line 5)'),
+    Case(
+        "bin/flow split 2 --by-key --align --unmatched partly.csv.2 partly.csv",
+        2,
+        "",
+        "flow: partly.csv.2: a part has this name",
+    ),
+    Case("bin/flow split 2 --by-key --align --unmatched partly.csv --force partly.csv", 2, "", "flow: partly.csv: the records are read from it"),
+    Case("bin/flow split 2 --by-key --align --unmatched keys.csv partly.csv", 2, "", "flow: keys.csv: it is there already"),
+    Case("ls | grep 'partly.csv.'", 1),
+    Case("bin/flow split 2 --by-key --align --unmatched alone.csv partly.csv", 0, "partly.csv.1\npartly.csv.2"),
+    Case("cat alone.csv", 0, "c,payments,30\n"),
+    Case("sort partly.csv.1 partly.csv.2", 0, "orders,10\norders,20\npayments,10\npayments,20\n"),
+    Case("bin/flow split 2 --align partly.csv", 2, "", "flow: --align is for --by-key"),
+    Case("bin/flow split 2 --by-key --unmatched alone.csv partly.csv", 2, "", "flow: --unmatched is for --by-key --align"),
+    Case(f"{LITTLE}; yes a,in,b | head -n 4000000 | bin/flow split 1 --by-key --name many -", 4, "", "flow: memory"),
+    Case("ls | grep many", 1),
     Case(
         "bin/flow merge examples/fault.toml fault.report",
         1,
@@ -333,10 +369,19 @@ def call_flow(part, copy):
     merge_parts(part, copy)
 
 
-def merge_parts(part, copy):
-    """The script of docs/past-one-machine.md: the report of the whole is that of one run."""
+def script_of(copy, first):
+    """The script of docs/past-one-machine.md that begins with this line."""
     lines = text_of(copy, "docs/past-one-machine.md").split("\n")
-    first = lines.index("    bin/flow split 8 records.csv")
-    script = "\n".join(lines[first : lines.index("", first)])
+    begin = lines.index(f"    {first}")
+    return "\n".join(lines[begin : lines.index("", begin)])
+
+
+def merge_parts(part, copy):
+    """The scripts of docs/past-one-machine.md: the report of the whole is that of one run, and each order meets its payment."""
+    script = script_of(copy, "bin/flow split 8 records.csv")
     ended = run(f"set -e\n{script}\ncmp whole.report import.report >&2", copy)
     part.compare("the script of docs/past-one-machine.md", ("status", 0, ended.status), ("standard error", "", ended.err))
+    script = script_of(copy, "bin/flow split 8 --by-key --align --unmatched alone.csv keyed.csv")
+    ended = run(f"set -e\n{KEYED}\n{script}\nbin/flow results whole.report | uniq -c; cat alone.csv", copy)
+    wanted = re.compile(r"(keyed\.csv\.\d\n){8} *99 balances,0\nk0,orders,5\n")
+    part.compare("its script with keys", ("status", 0, ended.status), ("output", True, wanted.fullmatch(ended.out) is not None))

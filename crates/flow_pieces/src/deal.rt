@@ -1,10 +1,13 @@
 //! Deals records out by their key.
-ghost use Rattle.std.specs.Prelude.{◌≡◌, ◌<◌, length, max, IfOk};
+ghost use Rattle.std.specs.Prelude.{◌≡◌, ◌<◌, length, IfOk};
 
-use crate::fault::PieceFault;
-use crate::records::{Records, fault_of};
-use csv::{Writer, WriterBuilder};
-use std::alloc::Global;
+use crate::align::{Aligned, align};
+use crate::differ::check_parts;
+use crate::entry::{By, Entry};
+use crate::fault::DealFault;
+use crate::keyed::Keyed;
+use crate::lists::sort_entries;
+use std::alloc::{AllocError, Global};
 use std::hash::{DefaultHasher, Hasher};
 
 /// The part that records with this key go to, from 0: its SipHash-1-3 modulo the number of parts.
@@ -19,62 +22,58 @@ pub fn part_of_key(key: &[u8], parts: usize) -> usize
     }
 }
 
-/// The parts of records of a key, an input and a value: as many as asked for, and one where none is asked for. All records
-/// with one key stand in one part, in their order, and without the key.
-///
-/// A record that hasn't three fields is refused.
-pub fn deal_by_key(alloc: Global, records: &[u8], parts: usize) -> Result<Vec<Vec<u8>>, PieceFault>
-    ensures { IfOk result (λ pieces. length pieces.items ≡ max 1 parts) }
-{
-    let mut writers = record_writers(alloc, parts.max(1))?;
-    let mut walk = Records::new(alloc, records);
-    'records: for _ in 0..u64::MAX {
-        if !walk.advance()? {
-            break;
-        }
-        deal(&mut writers, &walk)?;
-    }
-    texts_of(alloc, writers)
+/// Records in parts.
+#[derive(Drop)]
+pub struct Dealt {
+    /// The records of each part.
+    pub parts: Vec<Vec<Entry>>,
+    /// Of each part, those that have no partner.
+    pub alone: Vec<Vec<Entry>>,
 }
 
-/// As many writers, each of a text of its own.
-fn record_writers(alloc: Global, count: usize) -> Result<Vec<Writer<Vec<u8>>>, PieceFault>
-    ensures { IfOk result (λ writers. length writers.items ≡ count) }
+/// The records in so many parts, those of each part in their order. Refused where two inputs of a part do not have the same
+/// keys in the same order.
+pub fn deal_in_order(alloc: Global, keyed: &Keyed, parts: usize) -> Result<Dealt, DealFault>
+    ensures { IfOk result (λ dealt. length dealt.parts.items ≡ parts) }
 {
-    let mut writers = Vec::new(alloc);
-    for _ in 0..count {
-        writers.push(WriterBuilder::new().from_writer(Vec::new(alloc)))?;
-    }
-    Ok(writers)
+    let lists = sort_entries(alloc, &keyed.entries, By::Part, parts)?;
+    check_parts(alloc, &lists, keyed.inputs.len())?;
+    Ok(Dealt {
+        parts: lists,
+        alone: Vec::new(alloc),
+    })
 }
 
-/// Writes the input and the value of a record to the part of its key.
-fn deal(writers: &mut [Writer<Vec<u8>>], walk: &Records<'_>) -> Result<(), PieceFault> {
-    let row = walk.row();
-    let (3, Some(key), Some(input), Some(value)) = (row.len(), row.get(0), row.get(1), row.get(2))
-    else {
-        return Err(PieceFault::Fields(walk.number()));
-    };
-    let part = part_of_key(key, writers.len());
-    let Some(writer) = writers.get_mut(part) else {
-        return Ok(());
-    };
-    match writer.write_fields(&[input, value]) {
-        Ok(()) => Ok(()),
-        Err(error) => Err(fault_of(&error)),
-    }
+/// The records in so many parts, those of each part in rows, a record of each input in each. The records of one key and one
+/// input stay in their order, and those without a partner come last.
+pub fn deal_in_rows(alloc: Global, keyed: &Keyed, parts: usize) -> Result<Dealt, DealFault>
+    ensures { IfOk result (λ dealt. length dealt.parts.items ≡ parts) }
+{
+    let lists = sort_entries(alloc, &keyed.entries, By::Part, parts)?;
+    let dealt = align_parts(alloc, &lists, &keyed.keys, keyed.inputs.len())?;
+    check_parts(alloc, &dealt.parts, keyed.inputs.len())?;
+    Ok(dealt)
 }
 
-/// What the writers wrote.
-fn texts_of(alloc: Global, writers: Vec<Writer<Vec<u8>>>) -> Result<Vec<Vec<u8>>, PieceFault>
-    ensures { IfOk result (λ texts. length texts.items ≡ length writers.items) }
+/// The rows of each part, which have so many keys and inputs.
+fn align_parts(
+    alloc: Global,
+    parts: &[Vec<Entry>],
+    keys: &[usize],
+    inputs: usize,
+) -> Result<Dealt, AllocError>
+    ensures { IfOk result (λ dealt. length dealt.parts.items ≡ length parts.now) }
 {
-    let mut texts = Vec::with_capacity(alloc, writers.len())?;
-    'writers: for writer in writers {
-        match writer.into_inner() {
-            Ok(text) => texts.push(text)?,
-            Err(_) => return Err(PieceFault::Memory),
-        }
+    let mut aligned = Vec::with_capacity(alloc, parts.len())?;
+    let mut others = Vec::with_capacity(alloc, parts.len())?;
+    for (part, entries) in parts.iter().enumerate() {
+        let count = keys.get(part).copied().unwrap_or(0);
+        let Aligned { rows, alone } = align(alloc, entries, count, inputs)?;
+        aligned.push(rows)?;
+        others.push(alone)?;
     }
-    Ok(texts)
+    Ok(Dealt {
+        parts: aligned,
+        alone: others,
+    })
 }

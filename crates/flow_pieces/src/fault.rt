@@ -1,4 +1,5 @@
-//! Why records can't be cut.
+//! Why records can't be cut or dealt out.
+use crate::differ::Difference;
 use std::alloc::{AllocError, AllocFailed};
 
 /// Why records can't be cut into parts.
@@ -34,5 +35,36 @@ impl<T: Drop> From<AllocFailed<T>> for PieceFault {
 
     fn from(_error: AllocFailed<T>) -> PieceFault {
         PieceFault::Memory
+    }
+}
+
+/// Why numbered records are not dealt out.
+#[derive(Clone, Copy)]
+pub enum DealFault {
+    /// Two inputs of a part do not have the same keys in the same order.
+    Differ(Difference),
+    /// There was no memory for it.
+    Memory,
+}
+
+impl From<AllocError> for DealFault {
+    ghost use Rattle.flow_pieces.specs.declared.fault.DealFault.TheVariants.{Memory};
+    ghost use Rattle.std.specs.Prelude.{◌≡◌};
+
+    ghost from_gives = { λ _ fault. fault ≡ Memory };
+
+    fn from(_error: AllocError) -> DealFault {
+        DealFault::Memory
+    }
+}
+
+impl<T: Drop> From<AllocFailed<T>> for DealFault {
+    ghost use Rattle.flow_pieces.specs.declared.fault.DealFault.TheVariants.{Memory};
+    ghost use Rattle.std.specs.Prelude.{◌≡◌};
+
+    ghost from_gives = { λ _ fault. fault ≡ Memory };
+
+    fn from(_error: AllocFailed<T>) -> DealFault {
+        DealFault::Memory
     }
 }

@@ -182,10 +182,13 @@ const SPLIT: Entry = Entry {
     below: "\
 The parts are RECORDS.1, RECORDS.2 and so on, with as many digits as PARTS has; their names are printed. A file that is there
 already is refused, and nothing is written then. A cut is never in a quoted line end. With --by-key each record is
-`key,input,value`, and the parts have `input,value`.
+`key,input,value`, and the parts have `input,value`. In each part each input must have the same keys in the same order, as
+joins match by order; else nothing is written, and the status is 2. All records are kept in memory, with --align those of one
+part twice.
 
 example:
-  flow split 8 records.csv",
+  flow split 8 records.csv
+  flow split 8 --by-key --align --unmatched alone.csv keyed.csv",
     arguments: &[
         argument!("parts", Form::Parts("PARTS"), "How many parts, 1 to 1000"),
         argument!(
@@ -202,6 +205,16 @@ example:
             "by-key",
             Form::Flag(&[]),
             "Puts records with one key into one part, and takes the key off"
+        ),
+        argument!(
+            "align",
+            Form::Flag(&[]),
+            "Puts all inputs into the order of keys of the first; refuses records without a partner"
+        ),
+        argument!(
+            "unmatched",
+            Form::Named("FILE"),
+            "Writes records without a partner to FILE, and the others to the parts"
         ),
         argument!(
             "force",

@@ -15,21 +15,39 @@ pub struct PartFiles<'a> {
     pub records: &'a str,
     /// Whether a part may take the place of another file.
     pub may_replace: bool,
+    /// The file for records that are in no part, if there is to be one.
+    pub unmatched: Option<&'a str>,
 }
 
 impl PartFiles<'_> {
-    /// Writes each part to its file, and prints the name of the file. Nothing is written where one of the files may not be.
+    /// Writes each part to its file, and prints the name of the file; what is in no part goes to the file for that. Nothing is
+    /// written where one of the files may not be.
     pub fn write<R: Files + Print + AllocGlobal>(
         &self,
         rt: &R,
         pieces: &[&[u8]],
+        alone: &[u8],
     ) -> Result<(), Stop> {
         let paths = self.free_paths(rt, pieces.len())?;
+        if let Some(path) = self.unmatched {
+            self.check_apart(rt, path, &paths)?;
+            write_whole(rt, path, alone)?;
+        }
         for (path, piece) in paths.iter().zip(pieces) {
             write_whole(rt, path.as_str(), piece)?;
             rt.println(path.as_str())?;
         }
         Ok(())
+    }
+
+    /// Refuses a file for what is in no part that may not be written, or that has the name of a part, in any folder.
+    fn check_apart<R: Files>(&self, rt: &R, path: &str, parts: &[String]) -> Result<(), Stop> {
+        for part in parts {
+            if file_name(path) == file_name(part.as_str()) {
+                return Err(Stop::refused(path, &"a part has this name"));
+            }
+        }
+        self.check(rt, path)
     }
 
     /// The files of so many parts, in order, each of which may be written.
@@ -82,6 +100,14 @@ impl PartFiles<'_> {
             return Ok(());
         };
         Err(Stop::refused(path, &why))
+    }
+}
+
+/// The last name of a path.
+fn file_name(path: &str) -> &str {
+    match path.rsplit_once("/") {
+        Some((_, name)) => name,
+        None => path,
     }
 }
 

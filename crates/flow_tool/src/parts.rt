@@ -7,7 +7,7 @@ use crate::part_files::PartFiles;
 use crate::stop::Stop;
 use clap::ArgMatches;
 use flow_outcome::{MergeFault, Outline, merge_reports, worst_status};
-use flow_pieces::{PieceFault, cut_records, deal_by_key};
+use flow_pieces::{KeyFault, KeyedPieces, Pairing, PieceFault, cut_records, deal_by_key};
 use flow_plan_outline::outline_of;
 use flow_reading::Report;
 use std::alloc::{AllocError, Global};
@@ -19,29 +19,52 @@ pub fn split<R: Files + Input + Print + AllocGlobal>(
     rt: &R,
     given: &ArgMatches<'_>,
 ) -> Result<u8, Stop> {
-    let alloc = rt.alloc();
+    let pairing = pairing_of(given)?;
     let parts = given.get_one::<u32>("parts").unwrap_or(1) as usize;
     let path = given.get_str("records").unwrap_or("");
     let records = read_file(rt, path)?;
     let files = files_of(given, path);
-    if given.get_flag("by-key") {
-        match deal_by_key(alloc, &records, parts) {
-            Ok(texts) => {
-                let mut pieces = Vec::with_capacity(alloc, texts.len())?;
-                for text in &texts {
-                    pieces.push(text.as_slice())?;
-                }
-                files.write(rt, &pieces)?;
-            }
+    match pairing {
+        Some(pairing) => write_by_key(rt, path, &records, parts, pairing, &files)?,
+        None => match cut_records(rt.alloc(), &records, parts) {
+            Ok(pieces) => files.write(rt, &pieces, &[])?,
             Err(fault) => return Err(uncut(path, fault)),
-        }
-    } else {
-        match cut_records(alloc, &records, parts) {
-            Ok(pieces) => files.write(rt, &pieces)?,
-            Err(fault) => return Err(uncut(path, fault)),
-        }
+        },
     }
     Ok(0)
+}
+
+/// How inputs are paired where records are split by their keys; none where they are not.
+fn pairing_of(given: &ArgMatches<'_>) -> Result<Option<Pairing>, Stop> {
+    let aside = given.get_str("unmatched").is_some();
+    match (given.get_flag("by-key"), given.get_flag("align"), aside) {
+        (false, false, false) => Ok(None),
+        (true, false, false) => Ok(Some(Pairing::AsTheyCome)),
+        (true, true, false) => Ok(Some(Pairing::InRows)),
+        (true, true, true) => Ok(Some(Pairing::SetAside)),
+        (false, true, _) => Err(Stop::usage("--align is for --by-key")),
+        (_, false, true) => Err(Stop::usage("--unmatched is for --by-key --align")),
+    }
+}
+
+/// Deals the records of this path out by their keys.
+fn write_by_key<R: Files + Print + AllocGlobal>(
+    rt: &R,
+    path: &str,
+    records: &[u8],
+    parts: usize,
+    pairing: Pairing,
+    files: &PartFiles<'_>,
+) -> Result<(), Stop> {
+    let KeyedPieces { pieces, alone } = match deal_by_key(rt.alloc(), records, parts, pairing) {
+        Ok(dealt) => dealt,
+        Err(fault) => return Err(undealt(path, fault)),
+    };
+    let mut texts = Vec::with_capacity(rt.alloc(), pieces.len())?;
+    for text in &pieces {
+        texts.push(text.as_slice())?;
+    }
+    files.write(rt, &texts, &alone)
 }
 
 /// Where the parts go to of the records that are read from here.
@@ -55,7 +78,19 @@ fn files_of<'a>(given: &ArgMatches<'a>, path: &'a str) -> PartFiles<'a> {
         name: given.get_str("name").unwrap_or(name),
         records,
         may_replace: given.get_flag("force"),
+        unmatched: given.get_str("unmatched"),
     }
+}
+
+/// What a failure to deal out the records of this file comes to.
+fn undealt(path: &str, fault: KeyFault) -> Stop {
+    let (why, words) = match fault {
+        KeyFault::Piece(fault) => return uncut(path, fault),
+        KeyFault::Differ(words) => ("keys differ, see --align", words),
+        KeyFault::Alone(words) => ("no partner, see --unmatched", words),
+    };
+    let words = words.as_str();
+    Stop::refused(path, &format_args!("{why}: {words}"))
 }
 
 /// What a failure to cut the records of this file comes to.
