@@ -33,9 +33,10 @@ PREPARED = [
     "bin/flow_run examples/tours.toml 1 < examples/tours.csv > tours.report",
     "cp examples/import.toml network.toml",
     "cp examples/import.csv records.csv",
-    # Two inputs with other orders of keys; a key that one of them does not have.
+    # Two inputs with other orders of keys; a key that one of them does not have; a join of which one input gets more.
     r"printf 'a,orders,10\nb,orders,20\nb,payments,20\na,payments,10\n' > keys.csv",
     "{ cat keys.csv; echo c,payments,30; } > partly.csv",
+    r"printf 'orders,1\norders,2\npayments,1\n' > uneven.csv",
     # One message is missing that a block took, though it crossed the link to it.
     "sed '/^block order_numbers/,/^held/s/,\"1002\"//' import.report > damaged.report",
     # More than there is memory for, where there is little.
@@ -164,6 +165,12 @@ FLOW = [
     Case("bin/flow split 2 --by-key --unmatched alone.csv partly.csv", 2, "", "flow: --unmatched is for --by-key --align"),
     Case(f"{LITTLE}; yes a,in,b | head -n 4000000 | bin/flow split 1 --by-key --name many -", 4, "", "flow: memory"),
     Case("ls | grep many", 1),
+    Case(
+        "bin/flow check --short examples/matches.toml uneven.csv | tail -n 1",
+        0,
+        'uneven.csv:2:1: warning: block 4 "matched" gets more records from "orders" (2) than from "payments" (1): '
+        "what has no partner waits, and the run ends with status 1.",
+    ),
     Case(
         "bin/flow merge examples/fault.toml fault.report",
         1,

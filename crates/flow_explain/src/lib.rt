@@ -20,6 +20,7 @@ mod print;
 mod records;
 mod rows;
 mod shape;
+mod unequal;
 mod words;
 
 pub use check::{Verdict, check_both, check_network, check_records};
@@ -28,3 +29,4 @@ pub use finding::Flaw;
 pub use flow_hints::Warning;
 pub use print::{Source, Style};
 pub use records::explain_records;
+pub use unequal::warn_unequal;

@@ -35,4 +35,6 @@ mod told;
 #[cfg(test)]
 mod traces;
 #[cfg(test)]
+mod unequal;
+#[cfg(test)]
 mod warned;
