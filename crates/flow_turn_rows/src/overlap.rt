@@ -16,8 +16,12 @@ use std::sync::atomic::{AtomicBool, AtomicU32, Ordering};
 use std::thread::{Threads, yield_now};
 use std::time::{Clock, CpuClock};
 
-/// How often a job waits at most.
+/// How often a job waits at most, where the run needs another to come.
 const TURNS: u32 = 1_000_000;
+
+/// How often a job waits at most where one of many has to meet another. The first ones are alone, since the owner does them, and on a busy
+/// machine each wait takes as long as other programs have their turn.
+const PATIENCE: u32 = 1_000;
 
 /// How many numbers are posted.
 const POSTED: u32 = 100;
@@ -126,7 +130,7 @@ fn rounds_run_jobs_at_one_time(rt: HostRuntime) {
     has_recorded(&rt, &net, 2, 101);
 }
 
-/// A gate at which a job goes on only once two have been there at one time.
+/// A gate at which a job waits for a while until two have been there at one time.
 #[derive(Drop)]
 struct Pair {
     inside: AtomicU32,
@@ -138,7 +142,7 @@ impl Gate for Pair {
         if self.inside.fetch_add(1, Ordering::SeqCst) > 0 {
             self.met.store(true, Ordering::SeqCst);
         }
-        for _ in 0..TURNS {
+        for _ in 0..PATIENCE {
             if self.met.load(Ordering::SeqCst) {
                 return;
             }
