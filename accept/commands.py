@@ -5,8 +5,9 @@ import re
 import shutil
 from typing import NamedTuple, Optional
 
+from accept import terminals
 from accept.examples import run_shown, text_of
-from accept.shell import path_without, run, run_on_terminal
+from accept.shell import path_without, run
 
 USAGE = "usage: flow_run [NET WORKERS [LIMIT]]"
 
@@ -275,11 +276,21 @@ UNBUILT = [
     Case("bin/flow_run examples/import.toml 0", 2, "", USAGE),
     Case("bin/flow_run a b c d", 2, "", USAGE),
     Case("bin/flow_run --version", 0, "flow_run 0.1.0, not built yet"),
-    Case("bin/flow --help", 0, "usage: flow COMMAND\n\ncommands:\n  check    Tells what is wrong with a network and its records, and where"),
+    Case("bin/flow_run nowhere.toml 1 < examples/import.csv", 5, "", "flow_run: 12 Read"),
+    Case("bin/flow_run examples 1 < examples/import.csv", 5, "", "flow_run: 12 Read"),
+    Case(
+        "bin/flow --help",
+        0,
+        "usage: flow COMMAND\n\ncommands:\n  check    Tells what is wrong with a network and its records, and where",
+    ),
     Case("bin/flow --help > help; bin/flow -h | cmp - help && bin/flow help | cmp - help && bin/flow help help | cmp - help", 0),
     Case("bin/flow 2>&1 > /dev/null | cmp - help", 0),
     Case("bin/flow 2> /dev/null", 2),
-    Case("bin/flow check --help", 0, "usage: flow check NET [RECORDS] [--short]\n\nTells what is wrong with a network and its records, and where"),
+    Case(
+        "bin/flow check --help",
+        0,
+        "usage: flow check NET [RECORDS] [--short]\n\nTells what is wrong with a network and its records, and where",
+    ),
     Case("bin/flow check --help > help; bin/flow help check | cmp - help", 0),
     Case("bin/flow help fly", 2, "", 'flow: there is no command "fly"; `bin/flow --help` lists the commands'),
     Case("bin/flow --version", 0, "flow 0.1.0, not built yet"),
@@ -321,25 +332,6 @@ UNBUILT = [
     Case("bin/accept --slow", 2, "", "accept: "),
     Case("bin/accept --help >&-", 5, "", "accept: "),
     Case(f"bin/accept --help > {FULL}", 5, "", "accept: "),
-]
-
-# What `bin/flow_run` adds on a terminal where a program ends with a status: the status, the arguments, and the line.
-IMPORT = "examples/import.toml"
-ADVICE = [
-    (0, f"{IMPORT} 1", ""),
-    (
-        1,
-        f"{IMPORT} 1",
-        f"flow_run: something is left, open or faulted; `bin/flow why {IMPORT} REPORT` says what, with the report in a file REPORT\n",
-    ),
-    (2, f"{IMPORT} 1", f"flow_run: `bin/flow check {IMPORT} RECORDS` says where, and what may have been meant\n"),
-    (2, f"{IMPORT} 65", ""),
-    (3, f"{IMPORT} 1", f"flow_run: it stopped at the default LIMIT; `bin/flow_run {IMPORT} 1 18446744073709551615` has none\n"),
-    (3, f"{IMPORT} 1 100", ""),
-    (4, f"{IMPORT} 1", ""),
-    (5, "nowhere.toml 1", "flow_run: the network nowhere.toml can't be read\n"),
-    (5, "examples 1", "flow_run: the network examples can't be read\n"),
-    (5, f"{IMPORT} 1", "flow_run: 12 is standard input, and 13 standard output\n"),
 ]
 
 # Where the kit is missing nothing can be built.
@@ -409,28 +401,15 @@ def call_unbuilt(part, copy, room):
     # the words for help and the version
     shutil.copytree(os.path.join(copy, "crates/flow_tool/src"), os.path.join(bare, "crates/flow_tool/src"))
     run_cases(part, UNBUILT, bare)
-    advise(part, bare)
+    terminals.call_unbuilt(part, bare)
     run(FAILING_RT, bare)
     run_cases(part, WITH_FAILING_KIT, bare)
     run_cases(part, WITHOUT_KIT, bare, path_without("rt", os.path.join(room, "path")))
 
 
-def advise(part, bare):
-    """What is added on a terminal, and nowhere else. A script stands in the place of the program meanwhile."""
-    program = os.path.join(bare, "out", "flow_run")
-    os.mkdir(os.path.dirname(program))
-    for status, arguments, line in ADVICE:
-        with open(program, "w", encoding="utf-8") as script:
-            script.write(f"#!/bin/sh\nexit {status}\n")
-        os.chmod(program, 0o755)
-        command = f"bin/flow_run {arguments}"
-        for ended, wanted in ((run_on_terminal(command, bare), line), (run(command, bare), "")):
-            part.compare(f"{command}, with {status}", ("status", status, ended.status), ("standard error", wanted, ended.err))
-    shutil.rmtree(os.path.dirname(program))
-
-
 def call_built(part, copy):
     run_cases(part, BUILT, copy)
+    terminals.call_built(part, copy)
 
 
 def call_flow(part, copy):

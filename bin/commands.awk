@@ -97,7 +97,7 @@ function shown_as(kind, name, value) {
 # What the program would make of the words behind `judge`.
 function judged(    name) {
     name = ARGV[3]
-    if (name == "--help" || name == "-h") return "help"
+    if (name == "--help" || name ~ /^-h/) return "help"
     if (name == "--version" || name == "-V") return "version"
     if (!(name in count)) return "refused there is no command " shown(name)
     return judged_of(name)
@@ -111,7 +111,7 @@ function judged_of(name,    at, word, are_plain, why, number) {
             why = placed(name, word)
         } else if (word == "--") {
             are_plain = 1
-        } else if (word == "--help" || word == "-h") {
+        } else if (word == "--help" || word ~ /^-h/) {
             return "help " name
         } else {
             number = option_of(name, word)
