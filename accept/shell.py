@@ -35,6 +35,34 @@ def end(process):
             pass
 
 
+class Daemons:
+    """Programs that go on until they are ended, each in the foreground, with what they say in files of this folder."""
+
+    def __init__(self, folder):
+        self.folder = folder
+        self.begun = []
+
+    def start(self, words, environment):
+        name = os.path.basename(words[0])
+        with open(os.path.join(self.folder, f"{name}.said"), "wb") as said:
+            self.begun.append(begin(words, self.folder, environment, said, said))
+
+    def kill_last(self):
+        """Kills the one that was begun last."""
+        process = self.begun.pop()
+        os.killpg(process.pid, signal.SIGKILL)
+        process.wait(ENDING)
+        with guard:
+            running.discard(process)
+
+    def end(self):
+        while self.begun:
+            process = self.begun.pop()
+            end(process)
+            with guard:
+                running.discard(process)
+
+
 def stop(number, _frame):
     """Ends all commands, and then this one, where a signal asks for it."""
     stopping.set()
@@ -44,9 +72,9 @@ def stop(number, _frame):
     sys.exit(128 + number)
 
 
-def begin(words, folder, environment, error=subprocess.PIPE):
+def begin(words, folder, environment, error=subprocess.PIPE, output=subprocess.PIPE):
     """Begins a command in a session of its own, unless this one is to end."""
-    pipes = {"stdin": subprocess.DEVNULL, "stdout": subprocess.PIPE, "stderr": error}
+    pipes = {"stdin": subprocess.DEVNULL, "stdout": output, "stderr": error}
     with guard:
         if stopping.is_set():
             sys.exit(1)

@@ -6,6 +6,9 @@ import re
 
 FOLDERS = ["docs", "examples"]
 
+# Scripts that run parts of records.
+SCRIPTS = ["examples/slurm/*.sh"]
+
 # The examples that call the library, with what each consists of.
 CALLING = ["examples/c/*.c", "examples/c/Makefile", "examples/dotnet/*.cs", "examples/dotnet/Makefile", "examples/python/*.py"]
 CALLING += ["examples/rust/Cargo.toml", "examples/rust/build.rs", "examples/rust/src/*.rs", "examples/rust/src/bin/*.rs"]
@@ -18,7 +21,7 @@ def names(top, has_library):
     found = ["README.md"]
     for folder in FOLDERS:
         found += [f"{folder}/{name}" for name in sorted(os.listdir(os.path.join(top, folder)))]
-    for pattern in CALLING if has_library else []:
+    for pattern in [*SCRIPTS, *(CALLING if has_library else [])]:
         found += [os.path.relpath(path, top) for path in sorted(glob.glob(os.path.join(glob.escape(top), pattern)))]
     return [name for name in found if os.path.isfile(os.path.join(top, name))]
 
