@@ -5,7 +5,7 @@ import re
 import shutil
 from typing import NamedTuple, Optional
 
-from accept import terminals
+from accept import arenas, terminals
 from accept.examples import run_shown, text_of
 from accept.shell import path_without, run
 
@@ -402,6 +402,7 @@ def call_unbuilt(part, copy, room):
     shutil.copytree(os.path.join(copy, "crates/flow_tool/src"), os.path.join(bare, "crates/flow_tool/src"))
     run_cases(part, UNBUILT, bare)
     terminals.call_unbuilt(part, bare)
+    arenas.hand_on(part, bare)
     run(FAILING_RT, bare)
     run_cases(part, WITH_FAILING_KIT, bare)
     run_cases(part, WITHOUT_KIT, bare, path_without("rt", os.path.join(room, "path")))
@@ -410,6 +411,7 @@ def call_unbuilt(part, copy, room):
 def call_built(part, copy):
     run_cases(part, BUILT, copy)
     terminals.call_built(part, copy)
+    arenas.run_workers(part, copy)
 
 
 def call_flow(part, copy):
