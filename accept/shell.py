@@ -107,18 +107,27 @@ def run_on_terminal(command, folder):
     os.close(theirs)
     try:
         out, _ = process.communicate(timeout=SECONDS)
-        err = os.read(ours, 4096)
+        err = read_to_end(ours)
     except subprocess.TimeoutExpired:
         end(process)
         return Ended(None, b"", f"it had not ended after {SECONDS} s".encode())
-    except OSError:
-        # nothing was written, and nobody has the other end
-        err = b""
     finally:
         os.close(ours)
         with guard:
             running.discard(process)
     return Ended(process.returncode, out, err.replace(b"\r\n", b"\n"))
+
+
+def read_to_end(terminal):
+    """What was written to a terminal of which nobody has the other end any more. It may come in pieces."""
+    pieces = []
+    try:
+        while not pieces or pieces[-1]:
+            pieces.append(os.read(terminal, 4096))
+    except OSError:
+        # that is how such a terminal ends
+        pass
+    return b"".join(pieces)
 
 
 def path_without(program, folder):
