@@ -430,10 +430,14 @@ def script_of(copy, first):
 
 
 def merge_parts(part, copy):
-    """The scripts of docs/past-one-machine.md: the report of the whole is that of one run, and each order meets its payment."""
+    """The scripts of docs/past-one-machine.md: the report of the whole is that of one run, a mapper gives the results of its records, and
+    each order meets its payment."""
     script = script_of(copy, "bin/flow split 8 records.csv")
     ended = run(f"set -e\n{script}\ncmp whole.report import.report >&2", copy)
     part.compare("the script of docs/past-one-machine.md", ("status", 0, ended.status), ("standard error", "", ended.err))
+    script = script_of(copy, "bin/flow_run network.toml 1 18446744073709551615 | bin/flow results -")
+    ended, wanted = run(f"cat records.csv | {script}", copy), run("bin/flow results import.report", copy)
+    part.compare("its mapper", ("status", 0, ended.status), ("output", wanted.out, ended.out))
     script = script_of(copy, "bin/flow split 8 --by-key --align --unmatched alone.csv keyed.csv")
     ended = run(f"set -e\n{KEYED}\n{script}\nbin/flow results whole.report | uniq -c; cat alone.csv", copy)
     wanted = re.compile(r"(keyed\.csv\.\d\n){8} *99 balances,0\nk0,orders,5\n")
