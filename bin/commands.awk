@@ -70,6 +70,7 @@ function read_argument(name, at,    number) {
     number = ++count[name]
     own[name, number] = unquoted(token[at + 3])
     form[name, number] = token[at + 8]
+    if (form[name, number] !~ /^(Needed|Optional|Parts|Words|SomeWords|Named|Flag)$/) has_others[name] = 1
     for (at += 9; token[at] != ")" && at < last; at++)
         if (token[at] ~ /^"/) told[name, number] = told[name, number] (told[name, number] == "" ? "" : " ") unquoted(token[at])
 }
@@ -100,7 +101,8 @@ function judged(    name) {
     if (name == "--help" || name ~ /^-h/) return "help"
     if (name == "--version" || name == "-V") return "version"
     if (!(name in count)) return "refused there is no command " shown(name)
-    return judged_of(name)
+    # of forms that came later nothing is known here
+    return name in has_others ? "taken" : judged_of(name)
 }
 
 # Goes over the words of a command, as far as one is wrong or asks for help.
