@@ -4,15 +4,15 @@ ghost use Rattle.flow_link.specs.StagesMove.{MovesTo};
 ghost use Rattle.flow_link.specs.declared.stage.TargetStage.TheVariants.{Free, Postponed, Asking, Holding};
 ghost use Rattle.flow_intake.specs.Port.{fresh_port, fresh_end};
 ghost use Rattle.flow_block.specs.Traits.{target_over};
-ghost use Rattle.flow_reserving.specs.ReservingJoin.{fresh_join};
+ghost use Rattle.flow_kinds.specs.ReservingJoin.{fresh_join};
 ghost use Rattle.flow_block_rows.specs.Driven.{reserving_ports, two_sources, link_to};
 
 use crate::check::check;
 use crate::shared::{has_row, header, link, makes, parcel};
 use flow_group::Source;
 use flow_intake::Intake;
+use flow_kinds::ReservingJoin;
 use flow_link::{LinkId, TargetBlock, Wish, WishAnswer};
-use flow_reserving::ReservingJoin;
 use flow_value::{MessageHeader, MessageStatus};
 use std::alloc::Global;
 use std::process::Abort;

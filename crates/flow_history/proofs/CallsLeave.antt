@@ -2,21 +2,19 @@
 use Rattle.std.proofs.Common.{is_none, ◌&&◌, ◌≡◌, ℕ, zero, suc, ◌+◌, ◌-◌, ◌<◌, ◌≤◌, ◌==◌, Bool, true, false, cond, List, [], ◌∷◌, length, set, map, Option, Some, None, is_some, Ok, Err, refl, ap, sym, subst, ◌∙◌, arith, eqb-true}
 use Rattle.std.proofs.lemmas.Bool.{and_parts}
 use Rattle.flow_value.specs.declared.message.MessageStatus.{MessageStatus}
-use Rattle.flow_value.specs.declared.message.MessageStatus.TheVariants as status
 use Rattle.flow_link.specs.declared.stage.Refusal.TheVariants.{PortEnded}
 use Rattle.flow_link.specs.declared.stage.TargetStage.{TargetStage}
 use Rattle.flow_link.specs.declared.stage.TargetStage.TheVariants as target
 use Rattle.flow_link.specs.declared.trace.Outcome.TheVariants.{Done, Faulted}
 use Rattle.flow_link.specs.declared.traits.WishAnswer.{WishAnswer}
-use Rattle.flow_link.specs.declared.traits.WishAnswer.TheVariants as answer
 use Rattle.flow_link.specs.declared.traits.MakeFault.TheVariants as make_fault
 use Rattle.flow_link.specs.BlockCalls.{BlockCall}
 use Rattle.flow_link.specs.SourceCalls.{SourceCall}
 use Rattle.flow_link.specs.TargetCalls.{TargetCall, MayNote}
-use Rattle.flow_intake.specs.Port.{PortState, fresh_port, stage_at, coming}
+use Rattle.flow_intake.specs.Port.{PortState, fresh_port, coming}
 use Rattle.flow_intake.specs.PortLaw.{PortLaw, has_ended}
-use Rattle.flow_intake.specs.Calls.{answer_to, next_place, is_postponed, gives_room, port_closes, consumes as port_consumes}
-use Rattle.flow_intake.specs.ByLink.{place_of, with_link_at, closes_link, answered, drops_at, consumes_at, consumes_next}
+use Rattle.flow_intake.specs.Calls.{answer_to, next_place, gives_room, port_closes}
+use Rattle.flow_intake.specs.ByLink.{answered, consumes_next}
 use Rattle.flow_intake.proofs.CallsKeepOrder.{moves_keep}
 use Rattle.flow_outlet.specs.Outlet.{is_empty, is_at_rest, OutletState}
 use Rattle.flow_outlet.specs.ByLink.{place_of as out_place, is_there as is_head_there, consumes, consumed, gives_home, reserves, releases}
@@ -27,7 +25,7 @@ use Rattle.flow_spread.specs.ByLink.{place_of as copy_place, answered as copy_an
 use Rattle.flow_block.specs.Block.{BlockState, port_in, port_at, with_port, stops_by, with_copies}
 use Rattle.flow_block.specs.BlockFits.{GaveOut, AllGaveOut, weight_out}
 use Rattle.flow_block.specs.Copies.{copies_weight}
-use Rattle.flow_block.specs.Traits.{settles, outcome_of, faults, port_into, target_over, with_port_of, wishing_port, wishes, holds_at, notes, shares, offer_next, offered_by, answered_by, may_take, may_take_copy, gives_over, copies_home, given_by, may_keep, keeps_head, may_keep_copy, keeps_copy, reserved_by, released_by}
+use Rattle.flow_block.specs.Traits.{settles, outcome_of, faults, port_into, target_over, with_port_of, wishing_port, wishes, notes, shares, offer_next, offered_by, answered_by, may_take, may_take_copy, gives_over, copies_home, given_by, may_keep, keeps_head, may_keep_copy, keeps_copy, reserved_by, released_by}
 use Rattle.flow_block.proofs.PortsChange.{each_after_one, each_after_all}
 use Rattle.flow_block.proofs.RoomBack.{back_at, length_back, kept_back, each_after_back, back_fits}
 use Rattle.flow_block.proofs.TargetMoves.{some_port, shown_is}
@@ -35,6 +33,7 @@ use Rattle.flow_block.proofs.TargetStands.{not_noted}
 use Rattle.flow_lists.proofs.TestsTell.{every_tells}
 use Rattle.flow_block.specs.Peeks.{may_finish, could_stop, nothing_comes, is_complete, holds_nothing, is_copied_out}
 use Rattle.flow_link.specs.declared.trace.Outcome.{Outcome}
+use Rattle.flow_kinds.proofs.PortRests.{rest_of, answered_rest, consumed_rest, noted_rest}
 use Rattle.flow_history.specs.Calls.{MayCallInOrder, Call, Does, Fits}
 use Rattle.flow_history.specs.Kept.{any_link}
 use Rattle.flow_history.proofs.PortCalls.{answer_keeps, wish_keeps, note_keeps, room_keeps}
@@ -149,22 +148,13 @@ module _ (took : ℕ → ℕ) (old : BlockState) (law : Ordered took old.ports) 
 
   -- An offer is answered
 
-  known_same : (link : ℕ) (port : PortState) (place : Option ℕ) → SamePort port (with_link_at place link port)
-  known_same link port None = record { waiting = refl; ended = λ e. e; capacity = refl }
-  known_same link port (Some k) = record { waiting = refl; ended = λ e. e; capacity = refl }
-
-  answer_same : (link header : ℕ) (how : MessageStatus) (port : PortState) → SamePort port (answered link header how port)
-  answer_same link header status.Accepted port = let known = known_same link port (place_of link port.ends) in
-      record { waiting = known.waiting; ended = known.ended; capacity = known.capacity }
-  answer_same link header status.Postponed port = let known = known_same link port (place_of link port.ends) in
-      record { waiting = known.waiting; ended = known.ended; capacity = known.capacity }
-  answer_same link header status.DecliningPermanently port = closes_same port (place_of link port.ends)
-    where
-      closes_same : (port : PortState) (place : Option ℕ) → SamePort port (closes_link place port)
-      closes_same port None = record { waiting = refl; ended = λ e. e; capacity = refl }
-      closes_same port (Some k) = record { waiting = refl; ended = λ e. e; capacity = refl }
-  answer_same link header status.Declined port = record { waiting = refl; ended = λ e. e; capacity = refl }
-  answer_same link header status.NotAvailable port = record { waiting = refl; ended = λ e. e; capacity = refl }
+  -- where its ends and their queue alone change
+  rest_same : (port new : PortState) → rest_of new ≡ rest_of port → SamePort port new
+  rest_same port new same = record {
+    waiting = ap (λ (r : PortState). r.waiting) same;
+    ended = λ was. ap (λ (r : PortState). has_ended r.refusing) same ∙ was;
+    capacity = ap (λ (r : PortState). r.capacity) same;
+  }
 
   pub offer_leaves : (link header : ℕ) (may_postpone : Bool) (how : MessageStatus) → target_over old.ports link ≡ target.Free
       → how ≡ answer_to may_postpone (port_at (port_into link old.ports) old)
@@ -174,7 +164,7 @@ module _ (took : ℕ → ℕ) (old : BlockState) (law : Ordered took old.ports) 
       let port = port_at p old in
       let some = some_port old.ports link (λ never. let e : target.Free ≡ target.Refused PortEnded = sym free ∙ never in cc) in
       record {
-        still = still_at_one old p (answered link header how port) (answer_same link header how port);
+        still = still_at_one old p (answered link header how port) (rest_same port (answered link header how port) (answered_rest link header how port));
         jobs = refl;
         recorded = refl;
         fault = refl;
@@ -186,41 +176,15 @@ module _ (took : ℕ → ℕ) (old : BlockState) (law : Ordered took old.ports) 
 
   -- A wish is made, and answered
 
-  consume_same : (port : PortState) (place : Option ℕ) → SamePort port (consumes_at place port)
-  consume_same port None = record { waiting = refl; ended = λ e. e; capacity = refl }
-  consume_same port (Some k) = where_postponed (is_postponed (stage_at k port))
-    where
-      where_postponed : (postponed : Bool) → SamePort port (cond postponed (port_consumes k port) port)
-      where_postponed true = record { waiting = refl; ended = λ e. e; capacity = refl }
-      where_postponed false = record { waiting = refl; ended = λ e. e; capacity = refl }
-
   pub wish_leaves : (place : Option ℕ) → Goes (wishes place old)
   wish_leaves None = nothing_leaves
   wish_leaves (Some p) = record {
-    still = still_at_one old p (consumes_next (port_at p old)) (consume_same (port_at p old) (next_place (port_at p old)));
+    still = still_at_one old p (consumes_next (port_at p old)) (rest_same (port_at p old) (consumes_next (port_at p old)) (consumed_rest (port_at p old) (next_place (port_at p old))));
     jobs = refl;
     recorded = refl;
     fault = refl;
     ordered = one_ordered took old.ports p (consumes_next (port_at p old)) law (λ there before. wish_keeps (took p) (port_at p old) before);
   }
-
-  note_same : (told : WishAnswer) (link : ℕ) (port : PortState) → SamePort port (notes told link port)
-  note_same answer.Coming link port = record { waiting = refl; ended = λ e. e; capacity = refl }
-  note_same answer.Held link port = held_same (place_of link port.ends)
-    where
-      held_same : (place : Option ℕ) → SamePort port (holds_at place port)
-      held_same None = record { waiting = refl; ended = λ e. e; capacity = refl }
-      held_same (Some k) = record { waiting = refl; ended = λ e. e; capacity = refl }
-  note_same answer.NotAvailable link port = dropped_same (place_of link port.ends)
-    where
-      dropped_same : (place : Option ℕ) → SamePort port (drops_at place port)
-      dropped_same None = record { waiting = refl; ended = λ e. e; capacity = refl }
-      dropped_same (Some k) = record { waiting = refl; ended = λ e. e; capacity = refl }
-  note_same answer.Withdrawn link port = dropped_same (place_of link port.ends)
-    where
-      dropped_same : (place : Option ℕ) → SamePort port (drops_at place port)
-      dropped_same None = record { waiting = refl; ended = λ e. e; capacity = refl }
-      dropped_same (Some k) = record { waiting = refl; ended = λ e. e; capacity = refl }
 
   pub note_leaves : (link : ℕ) (told : WishAnswer) → MayNote told (target_over old.ports link)
       → Goes (with_port_of link (notes told link) old)
@@ -229,7 +193,7 @@ module _ (took : ℕ → ℕ) (old : BlockState) (law : Ordered took old.ports) 
       let port = port_at p old in
       let some = some_port old.ports link (λ never. not_noted told (Some PortEnded) (subst (λ (s : TargetStage). MayNote told s) never may)) in
       record {
-        still = still_at_one old p (notes told link port) (note_same told link port);
+        still = still_at_one old p (notes told link port) (rest_same port (notes told link port) (noted_rest told link port));
         jobs = refl;
         recorded = refl;
         fault = refl;

@@ -1,12 +1,11 @@
 -- Over any calls a batched join that a caller drives by hand keeps its messages.
-use Rattle.std.proofs.Common.{◌≡◌, ℕ, zero, suc, ◌+◌, ◌<◌, ◌^◌, ◌==◌, leb, ltb, Bool, true, false, not, ◌&&◌, ◌||◌, cond, List, [], ◌∷◌, ◌++◌, length, drop, take, Ok, Err, refl, ap, sym, subst, ◌∙◌, arith, append-nil, length-append, is_some, ◌≤◌, Option, Some, None}
+use Rattle.std.proofs.Common.{◌≡◌, ℕ, zero, suc, ◌+◌, ◌<◌, leb, ltb, Bool, true, false, ◌&&◌, ◌||◌, cond, List, [], ◌∷◌, ◌++◌, length, drop, take, Ok, Err, refl, ap, sym, subst, ◌∙◌, arith, append-nil, length-append, is_some, ◌≤◌, Option, Some, None}
 use Rattle.std.proofs.lemmas.Bool.{and_parts, and_from, ltb-true}
 use Rattle.std.proofs.lemmas.List.{length-set, length-drop}
 use Rattle.flow_value.specs.declared.value.Value.{Value}
 use Rattle.flow_link.specs.declared.draft.BlockKind.TheVariants.{BatchedJoin}
 use Rattle.flow_link.specs.declared.traits.MakeFault.TheVariants as make_fault
 use Rattle.flow_link.specs.BlockCalls.{BlockCall}
-use Rattle.flow_lists.specs.Lists.{is_empty}
 use Rattle.flow_link.specs.Making.{Arrival, arrived_at, all_items, column}
 use Rattle.flow_link.specs.Plan.{is_one_taker, is_write_once}
 use Rattle.flow_link.specs.SourceCalls.{SourceCall}
@@ -21,16 +20,16 @@ use Rattle.flow_group.specs.Tuples.{only_at}
 use Rattle.flow_group.proofs.GroupsCut.{as_many_taken, ended_later, groups_tell}
 use Rattle.flow_group.proofs.GroupsKeep.{groups_kept}
 use Rattle.flow_outlet.specs.declared.ends.LinkRule.{LinkRule}
-use Rattle.flow_spread.specs.Spread.{is_spread_free}
-use Rattle.flow_block.specs.Block.{BlockState, port_in, port_at, held_by, is_batch, is_join, is_batched_join, copies_at_once, copies_where, copies_taken}
+use Rattle.flow_block.specs.Block.{BlockState, port_in, port_at, held_by, is_batch, is_join, is_batched_join, copies_at_once, copies_taken}
 use Rattle.flow_block.specs.Groups.{waiting_in_all}
 use Rattle.flow_block.specs.Peeks.{may_make}
 use Rattle.flow_block.specs.Traits.{target_over, port_into, with_port_of}
 use Rattle.flow_block_law.proofs.GoingOn.{may_make_tells}
 use Rattle.flow_block_law.proofs.GroupPorts.{each_after_group, kept_by_group}
-use Rattle.flow_batched.specs.BatchedJoin.{JoinState, fresh_join}
-use Rattle.flow_batched.specs.Calls.{makes_next}
-use Rattle.flow_batched.proofs.OrderTells.{told_in_all}
+use Rattle.flow_kinds.specs.BatchedJoin.{JoinState, fresh_join}
+use Rattle.flow_kinds.specs.BatchedCalls.{makes_next}
+use Rattle.flow_kinds.proofs.CopiesNone.{never_at_once, copies_none}
+use Rattle.flow_kinds.proofs.OrderTells.{told_in_all}
 use Rattle.flow_link.specs.LinkOk.{IsWithin}
 use Rattle.flow_history.specs.Calls.{Call, MayCallInOrder, Does, Step, AllDone, after_all}
 use Rattle.flow_history.specs.History.{History, nothing_yet, took_at, came_by, made_by, copied_at_once, noted, history_of, gave_by, Gift, given}
@@ -41,6 +40,7 @@ use Rattle.flow_history.proofs.GroupsCounted.{messages_of, messages_parts, Count
 use Rattle.flow_history.proofs.Makes.{not_of, shared_more}
 use Rattle.flow_history.proofs.MessagesKept.{one_call, fresh_kept, none_at, nothing_added, only_made, given_then}
 use Rattle.flow_history.proofs.PortCalls.{less_waits}
+use Rattle.flow_history.proofs.StepsKept.{fits_after, all_kept}
 use Rattle.flow_history.proofs.Still.{shares_alone, Kept}
 use Rattle.flow_history.proofs.Takes.{held_more, open_port, refuses_so, there}
 
@@ -199,12 +199,10 @@ module _ (h : History) (old new : JoinState) (kept : KeptJoin h old) (fits : Fit
 
     -- it copies nothing
     copies_nothing : copies_at_once arrived ≡ false
-    copies_nothing =
-        ap (λ (once : Bool). once && length arrived.ports == 1 && not (is_empty (held_by arrived)) && is_spread_free old.block.copies
-        && ltb (old.block.copies.id + 1) (2 ^ 59)) (ap is_write_once fits.kind_is)
+    copies_nothing = never_at_once arrived (ap is_write_once fits.kind_is)
 
     taken_is : copies_taken arrived ≡ arrived
-    taken_is = ap (λ (once : Bool). copies_where once arrived) copies_nothing
+    taken_is = copies_none arrived (ap is_write_once fits.kind_is)
 
     came_groups : GroupsLaw (length arrived.ports) arrived.size (all_ended arrived.ports) (h.came ++ arrival_at p value ∷ []) h.made
         (old.order ++ p ∷ []) (held_at arrived.ports)
@@ -294,10 +292,7 @@ module _ (h : History) (old new : JoinState) (kept : KeptJoin h old) (fits : Fit
 
 all_calls : (steps : List (Step Call JoinState)) (old : JoinState) (h : History) → FitsJoin old → AllDone FitsJoin MayCallJoinInOrder DoesToJoin steps old
     → KeptJoin h old → KeptJoin (history_of came_to grouped_by gave_by steps old h) (after_all steps old)
-all_calls [] old h fits done kept = kept
-all_calls (step ∷ steps) old h fits done kept =
-    all_calls steps step.left (noted came_to grouped_by gave_by step.call old h) done.1.1.0 done.1.1.1
-    (join_call h old step.left kept fits step.call done.0 done.1.0)
+all_calls = all_kept FitsJoin MayCallJoinInOrder DoesToJoin came_to grouped_by gave_by KeptJoin join_call
 
 fresh_join_kept : (size : ℕ) (ports : List PortState) (rules : List LinkRule) → 0 < size → NothingCame ports
     → KeptJoin nothing_yet (fresh_join size ports rules)
@@ -340,11 +335,6 @@ groups_are_kept = record {
   each = λ size ports rules some begins fits steps done.
       let fresh = fresh_join size ports rules in
       keeps_groups (history_of came_to grouped_by gave_by steps fresh nothing_yet) (after_all steps fresh)
-      (all_calls steps fresh nothing_yet fits done (fresh_join_kept size ports rules some begins)) (kind_after steps fresh fits done);
+      (all_calls steps fresh nothing_yet fits done (fresh_join_kept size ports rules some begins))
+      (fits_after FitsJoin MayCallJoinInOrder DoesToJoin steps fresh fits done).kind_is;
 }
-  where
-    -- it stays a batched join
-    kind_after : (steps : List (Step Call JoinState)) (old : JoinState) → FitsJoin old → AllDone FitsJoin MayCallJoinInOrder DoesToJoin steps old
-        → (after_all steps old).block.kind ≡ BatchedJoin
-    kind_after [] old fits done = fits.kind_is
-    kind_after (step ∷ steps) old fits done = kind_after steps step.left done.1.1.0 done.1.1.1

@@ -3,8 +3,6 @@
 use Rattle.std.proofs.Common.{◌≡◌, ℕ, ◌+◌, ◌-◌, ◌<◌, ◌≤◌, min, Bool, true, false, cond, is_some, List, length, Option, Some, None, Ok, Err, refl, ap, sym, subst, ◌∙◌, arith, ◌==◌, not, ap₂, [], set}
 use Rattle.std.proofs.lemmas.Bool.{and_parts, not-true}
 use Rattle.flow_value.specs.declared.value.Value.{Value}
-use Rattle.flow_value.specs.declared.message.MessageStatus.{MessageStatus}
-use Rattle.flow_value.specs.declared.message.MessageStatus.TheVariants as status
 use Rattle.flow_link.specs.BlockCalls.{BlockCall}
 use Rattle.flow_link.specs.Plan.{is_one_taker}
 use Rattle.flow_link.specs.SourceCalls.{SourceCall}
@@ -12,15 +10,13 @@ use Rattle.flow_link.specs.TargetCalls.{TargetCall}
 use Rattle.flow_link.specs.declared.trace.Outcome.{Outcome}
 use Rattle.flow_link.specs.declared.trace.Outcome.TheVariants.{Done, Faulted}
 use Rattle.flow_link.specs.declared.traits.MakeFault.TheVariants as make_fault
-use Rattle.flow_link.specs.declared.traits.WishAnswer.{WishAnswer}
-use Rattle.flow_link.specs.declared.traits.WishAnswer.TheVariants as answer
-use Rattle.flow_intake.specs.Port.{PortState, stage_at}
-use Rattle.flow_intake.specs.ByLink.{place_of, with_link_at, closes_link, answered, drops_at, consumes_at, consumes_next}
-use Rattle.flow_intake.specs.Calls.{next_place, is_postponed, port_closes, consumes as port_consumes}
+use Rattle.flow_intake.specs.Port.{PortState}
+use Rattle.flow_intake.specs.ByLink.{answered, consumes_next}
+use Rattle.flow_intake.specs.Calls.{next_place, port_closes}
 use Rattle.flow_outlet.specs.ByLink.{place_of as out_place, is_head, is_there as is_head_there, tests_consume, consumes, consumed, gives_home}
 use Rattle.flow_outlet.specs.Outlet.{head_of, weight_at, is_empty}
 use Rattle.flow_block.specs.Block.{BlockState, port_in, port_at, with_port, row_count, stops_by}
-use Rattle.flow_block.specs.Traits.{settles, outcome_of, faults, offer_next, offered_by, answered_by, taken_by, given_by, may_take, gives_over, with_port_of, port_into, wishing_port, wishes, holds_at, notes, may_keep, keeps_head, reserved_by, released_by}
+use Rattle.flow_block.specs.Traits.{settles, outcome_of, faults, offer_next, offered_by, answered_by, taken_by, given_by, may_take, gives_over, with_port_of, port_into, wishing_port, wishes, notes, may_keep, keeps_head, reserved_by, released_by}
 use Rattle.flow_block.proofs.PortsChange.{kept_at_one, kept_at_all}
 use Rattle.flow_block.proofs.RoomBack.{port_back}
 use Rattle.flow_outlet.specs.Fits.{weight_of}
@@ -28,48 +24,10 @@ use Rattle.flow_outlet.specs.declared.group.Group.{Group}
 use Rattle.flow_block.specs.Copies.{copies_weight}
 use Rattle.flow_block.specs.Peeks.{may_finish}
 use Rattle.flow_block.proofs.SourceStands.{there_is_head}
+use Rattle.flow_kinds.proofs.PortRests.{answered_rest, consumed_rest, noted_rest}
 use Rattle.flow_history.specs.Calls.{Call, Does}
 use Rattle.flow_history.proofs.CallsLeave.{IsPlain}
 use Rattle.flow_history.proofs.ExitsGo.{given_value, no_head}
-
--- At one port
-
-known_load : (link : ℕ) (port : PortState) (place : Option ℕ) → (with_link_at place link port).load ≡ port.load
-known_load link port None = refl
-known_load link port (Some k) = refl
-
-closed_load : (port : PortState) (place : Option ℕ) → (closes_link place port).load ≡ port.load
-closed_load port None = refl
-closed_load port (Some k) = refl
-
-answered_load : (link header : ℕ) (how : MessageStatus) (port : PortState) → (answered link header how port).load ≡ port.load
-answered_load link header status.Accepted port = known_load link port (place_of link port.ends)
-answered_load link header status.Postponed port = known_load link port (place_of link port.ends)
-answered_load link header status.DecliningPermanently port = closed_load port (place_of link port.ends)
-answered_load link header status.Declined port = refl
-answered_load link header status.NotAvailable port = refl
-
-consumed_load : (port : PortState) (place : Option ℕ) → (consumes_at place port).load ≡ port.load
-consumed_load port None = refl
-consumed_load port (Some k) = where_postponed (is_postponed (stage_at k port))
-  where
-    where_postponed : (postponed : Bool) → (cond postponed (port_consumes k port) port).load ≡ port.load
-    where_postponed true = refl
-    where_postponed false = refl
-
-held_load : (port : PortState) (place : Option ℕ) → (holds_at place port).load ≡ port.load
-held_load port None = refl
-held_load port (Some k) = refl
-
-dropped_load : (port : PortState) (place : Option ℕ) → (drops_at place port).load ≡ port.load
-dropped_load port None = refl
-dropped_load port (Some k) = refl
-
-noted_load : (told : WishAnswer) (link : ℕ) (port : PortState) → (notes told link port).load ≡ port.load
-noted_load answer.Coming link port = refl
-noted_load answer.Held link port = held_load port (place_of link port.ends)
-noted_load answer.NotAvailable link port = dropped_load port (place_of link port.ends)
-noted_load answer.Withdrawn link port = dropped_load port (place_of link port.ends)
 
 -- At all ports
 
@@ -88,7 +46,7 @@ module _ (old : BlockState) (p : ℕ) where
 
   wished_loads : (place : Option ℕ) → (port_at p (wishes place old)).load ≡ (port_at p old).load
   wished_loads None = refl
-  wished_loads (Some q) = at_one q (consumes_next (port_at q old)) (consumed_load (port_at q old) (next_place (port_at q old)))
+  wished_loads (Some q) = at_one q (consumes_next (port_at q old)) (ap (λ (r : PortState). r.load) (consumed_rest (port_at q old) (next_place (port_at q old))))
 
   offered_loads : (place : Option ℕ) → (port_at p (offered_by true place old)).load ≡ (port_at p old).load
   offered_loads place = refl
@@ -154,14 +112,14 @@ module _ (old new : BlockState) (one : is_one_taker old.kind ≡ true) (p : ℕ)
   loads_take (TargetCall.offered link header may_postpone how) plain does =
       let q = port_into link old.ports in
       loads_as None (with_port_of link (answered link header how) old) does.1
-      (at_one old p q (answered link header how (port_at q old)) (answered_load link header how (port_at q old)))
+      (at_one old p q (answered link header how (port_at q old)) (ap (λ (r : PortState). r.load) (answered_rest link header how (port_at q old))))
   loads_take (TargetCall.handed link header value) plain does = absurd plain
   loads_take (TargetCall.wished told) plain does =
       loads_as None (wishes (wishing_port old.ports) old) does.1 (wished_loads old p (wishing_port old.ports))
   loads_take (TargetCall.noted link told) plain does =
       let q = port_into link old.ports in
       loads_as None (with_port_of link (notes told link) old) does
-      (at_one old p q (notes told link (port_at q old)) (noted_load told link (port_at q old)))
+      (at_one old p q (notes told link (port_at q old)) (ap (λ (r : PortState). r.load) (noted_rest told link (port_at q old))))
 
   module _ (there : p < length old.ports) (no_room : old.exits.room ≡ 0) (no_groups : old.exits.groups ≡ []) where
     loads_give : (call : SourceCall) → Does (Call.gives call) old new → LoadsAt (given_value (Call.gives call)) old new p

@@ -38,6 +38,7 @@ use Rattle.flow_history.proofs.CallsLeave.{IsPlain, call_leaves, out_at}
 use Rattle.flow_history.proofs.ExitsGo.{Goes, given_value, exits_go}
 use Rattle.flow_history.proofs.Makes.{makes_kept, alone_shares}
 use Rattle.flow_history.proofs.Still.{HasOneRoom, Kept, kept_still, shares_alone, weighs_left}
+use Rattle.flow_history.proofs.StepsKept.{fits_after, all_kept}
 use Rattle.flow_history.proofs.Takes.{taken_kept}
 
 -- a call adds nothing to what came, was made or was given
@@ -176,10 +177,7 @@ module _ (single : Bool) (h : History) (old new : BlockState) (kept : Kept singl
 
 all_calls : (single : Bool) (steps : List (Step Call BlockState)) (old : BlockState) (h : History) → Fits old → AllDone Fits MayCallInOrder Does steps old → Kept single h old
     → Kept single (history_of came_by made_by gave_by steps old h) (after_all steps old)
-all_calls single [] old h fits done kept = kept
-all_calls single (step ∷ steps) old h fits done kept =
-    all_calls single steps step.left (noted came_by made_by gave_by step.call old h) done.1.1.0 done.1.1.1
-    (one_call single h old step.left kept fits step.call done.0 done.1.0)
+all_calls single = all_kept Fits MayCallInOrder Does came_by made_by gave_by (Kept single) (one_call single)
 
 -- From a block to which nothing came
 
@@ -225,10 +223,6 @@ module _ (kind : BlockKind) (lanes size : ℕ) (ports : List PortState) (rules :
   }
 
 -- What the law says
-
-fits_after : (steps : List (Step Call BlockState)) (old : BlockState) → Fits old → AllDone Fits MayCallInOrder Does steps old → Fits (after_all steps old)
-fits_after [] old fits done = fits
-fits_after (step ∷ steps) old fits done = fits_after steps step.left done.1.1.0 done.1.1.1
 
 -- what takes places is counted, and all that is counted fits
 pub fits_in : (capacity : Option ℕ) (waiting weight places load comes : ℕ) → places ≤ weight → cond (is_some capacity) (waiting + weight) 0 ≤ load
@@ -276,7 +270,7 @@ messages_kept = record {
       let fresh = fresh_block kind lanes size ports rules in
       keeps (history_of came_by made_by gave_by steps fresh nothing_yet) (after_all steps fresh)
       (all_calls false steps fresh nothing_yet fits done (fresh_kept kind lanes size ports rules begins false some (λ e. absurd (cc))))
-      (fits_after steps fresh fits done);
+      (fits_after Fits MayCallInOrder Does steps fresh fits done);
   once = λ lanes size port rules begins room fits steps done.
       (all_calls true steps (fresh_block WriteOnce lanes size (port ∷ []) rules) nothing_yet fits done
       (fresh_kept WriteOnce lanes size (port ∷ []) rules begins true (λ e. absurd (cc))

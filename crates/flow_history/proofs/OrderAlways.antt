@@ -20,11 +20,11 @@ use Rattle.flow_block.specs.BlockFits.{fresh_block}
 use Rattle.flow_block.specs.Copies.{shared_rules}
 use Rattle.flow_block.specs.Jobs.{Slot, brings, comes_out}
 use Rattle.flow_block.proofs.ResultsKept.{keeps_goes}
-use Rattle.flow_batched.specs.BatchedJoin.{JoinState, fresh_join}
+use Rattle.flow_kinds.specs.BatchedJoin.{JoinState, fresh_join}
 use Rattle.flow_exec.specs.Execution.{ExecutionState, fresh_execution, job_result}
 use Rattle.flow_link.specs.TargetCalls.{TargetCall}
-use Rattle.flow_reserving.specs.ReservingJoin.{ReservingState, fresh_join as fresh_reserving}
-use Rattle.flow_reserving.specs.Wishes.{after_wish}
+use Rattle.flow_kinds.specs.ReservingJoin.{ReservingState, fresh_join as fresh_reserving}
+use Rattle.flow_kinds.specs.Wishes.{after_wish}
 use Rattle.flow_history.specs.Calls.{Call, MayCall, Fits, Does, Step, AllDone, after_all}
 use Rattle.flow_history.specs.Grouped.{MayCallJoin, DoesToJoin, FitsJoin, came_to, grouped_by}
 use Rattle.flow_history.specs.History.{Gift, History, nothing_yet, came_by, made_by, gave_by, noted, history_of}
@@ -94,7 +94,7 @@ fresh_shares sure kind lanes size ports rules one = record {
 common_keeps : (sure : Bool) (gave : List Gift) (old new : BlockState) (call : Call) → Shares sure gave old → MayCallAsked sure call old → Does call old new
     → Shares sure (gave ++ gave_by call) new
 common_keeps sure gave old new call shares may does = record {
-  one = ap is_one_taker (kind_stays old new shares.one call does) ∙ shares.one;
+  one = ap is_one_taker (kind_stays old new call does) ∙ shares.one;
   goes = call_by_rule sure gave old new shares.one shares.goes call may does;
 }
 

@@ -11,8 +11,6 @@ use Rattle.flow_link.specs.BlockCalls.{BlockCall}
 use Rattle.flow_link.specs.Plan.{is_broadcast, is_one_taker}
 use Rattle.flow_link.specs.SourceCalls.{SourceCall}
 use Rattle.flow_link.specs.TargetCalls.{TargetCall}
-use Rattle.flow_link.specs.declared.kinds.BlockUnit.{BlockUnit}
-use Rattle.flow_link.specs.declared.kinds.BlockUnit.TheVariants as unit
 use Rattle.flow_link.specs.Kinds.{unit_of}
 use Rattle.flow_intake.specs.Calls.{first_of, port_closes}
 use Rattle.flow_intake.specs.ByLink.{answered, arrives}
@@ -25,6 +23,7 @@ use Rattle.flow_block.specs.Traits.{settles, outcome_of, faults, makes_alone, ha
 use Rattle.flow_block.specs.Peeks.{may_finish}
 use Rattle.flow_block.proofs.HeadKept.{may_reserve, is_reserved}
 use Rattle.flow_block.proofs.SourceStands.{there_is_head}
+use Rattle.flow_kinds.proofs.KindsStay.{settles_stay, acts_stay, gives_stay, takes_stay}
 use Rattle.flow_history.specs.Calls.{Call, MayCall, Does}
 use Rattle.flow_history.specs.History.{Gift, gifts_of, gave_by}
 use Rattle.flow_history.specs.Ordered.{AnswersSteadily, GoesInOrder}
@@ -218,65 +217,8 @@ module _ (gave : List Gift) (old new : BlockState) (one : is_one_taker old.kind 
 
 -- It stays of its kind
 
-module _ (old new : BlockState) (one : is_one_taker old.kind ≡ true) where
-  kind_as : (block : BlockState) → new ≡ block → block.kind ≡ old.kind → new.kind ≡ old.kind
-  kind_as block is same = ap (λ (b : BlockState). b.kind) is ∙ same
-
-  kind_where : (b : Bool) (first second : BlockState) → first.kind ≡ old.kind → second.kind ≡ old.kind → (cond b first second).kind ≡ old.kind
-  kind_where true first second here there = here
-  kind_where false first second here there = there
-
-  handed_kind : (values : List Value) → (puts_out values old).kind ≡ old.kind
-  handed_kind [] = refl
-  handed_kind (value ∷ values) = refl
-
-  copied_kind : (block : BlockState) (first : Option Value) → (copies_next first block).kind ≡ block.kind
-  copied_kind block None = refl
-  copied_kind block (Some value) = refl
-
-  taken_kind : (arrived : BlockState) (once : Bool) → (copies_where once arrived).kind ≡ arrived.kind
-  taken_kind arrived true = copied_kind arrived (first_of (held_by arrived))
-  taken_kind arrived false = refl
-
-  made_kind_at : (made : BlockUnit) → (goes_on_by_unit made old).kind ≡ old.kind
-  made_kind_at unit.Message = handed_kind (take 1 (held_by old))
-  made_kind_at unit.Row = refl
-  made_kind_at unit.Tuple = refl
-  made_kind_at unit.Group = handed_kind (take 1 (held_by old))
-  made_kind_at unit.Copy = copied_kind old (first_of (held_by old))
-  made_kind_at unit.OneCopy = handed_kind (take 1 (held_by old))
-
-  made_kind : (makes_its_next old).kind ≡ old.kind
-  made_kind = made_kind_at (unit_of old.kind)
-
-  pub kind_stays : (call : Call) → Does call old new → new.kind ≡ old.kind
-  kind_stays (Call.acts (BlockCall.completed p)) does = kind_as (with_port p port_closes old) does refl
-  kind_stays (Call.acts (BlockCall.faulted number)) does =
-      kind_as (faults number old) does (kind_where (is_some (outcome_of old)) old (stops_by (Faulted number) old) refl refl)
-  kind_stays (Call.acts (BlockCall.made (Ok true))) does = kind_as (makes_its_next old) does.1 made_kind
-  kind_stays (Call.acts (BlockCall.made (Ok false))) does = kind_as old does.1 refl
-  kind_stays (Call.acts (BlockCall.made (Err make_fault.Ids))) does = kind_as old does.1 refl
-  kind_stays (Call.acts (BlockCall.made (Err make_fault.Memory))) does = kind_as old does.1 refl
-  kind_stays (Call.gives (SourceCall.offered offer)) does =
-      kind_as (offered_by true (offer_next old) old) (does.1 ∙ ap (λ (b : Bool). offered_by b (offer_next old) old) one) refl
-  kind_stays (Call.gives (SourceCall.noted link header how)) does =
-      kind_as (answered_by true link header how old) (does ∙ ap (λ (b : Bool). answered_by b link header how old) one) refl
-  kind_stays (Call.gives (SourceCall.consumed link header value)) does =
-      kind_as (given_by true link header old) (does.1 ∙ ap (λ (b : Bool). given_by b link header old) one)
-      (kind_where (may_take link header old.exits) (gives_over link header old) old refl refl)
-  kind_stays (Call.gives (SourceCall.reserved link header kept)) does =
-      kind_as (reserved_by true link header old) (does.1 ∙ ap (λ (b : Bool). reserved_by b link header old) one)
-      (kind_where (may_keep link header old.exits) (keeps_head link header old) old refl refl)
-  kind_stays (Call.gives (SourceCall.released link header)) does =
-      kind_as (released_by true link header old) (does ∙ ap (λ (b : Bool). released_by b link header old) one) refl
-  kind_stays (Call.takes (TargetCall.offered link header may_postpone how)) does = kind_as (with_port_of link (answered link header how) old) does.1 refl
-  kind_stays (Call.takes (TargetCall.handed link header value)) does =
-      let arrived = with_port_of link (arrives link value) old in
-      kind_as (copies_taken arrived) does (taken_kind arrived (copies_at_once arrived))
-  kind_stays (Call.takes (TargetCall.wished told)) does = kind_as (wishes (wishing_port old.ports) old) does.1 (wished_kind (wishing_port old.ports))
-    where
-      wished_kind : (place : Option ℕ) → (wishes place old).kind ≡ old.kind
-      wished_kind None = refl
-      wished_kind (Some p) = refl
-  kind_stays (Call.takes (TargetCall.noted link told)) does = kind_as (with_port_of link (notes told link) old) does refl
-  kind_stays Call.asked does = kind_as (settles old) does (kind_where (may_finish old) (stops_by Done old) old refl refl)
+pub kind_stays : (old new : BlockState) (call : Call) → Does call old new → new.kind ≡ old.kind
+kind_stays old new (Call.acts call) does = (acts_stay old new call does).kind
+kind_stays old new (Call.gives call) does = (gives_stay old new call does).kind
+kind_stays old new (Call.takes call) does = (takes_stay old new call does).kind
+kind_stays old new Call.asked does = (settles_stay old new does).kind

@@ -1,5 +1,5 @@
 -- Over any calls a join that reserves, which a caller drives by hand, keeps its messages.
-use Rattle.std.proofs.Common.{◌≡◌, ℕ, ◌+◌, ◌<◌, false, cond, List, [], ◌∷◌, ◌++◌, length, ap, sym, subst, arith}
+use Rattle.std.proofs.Common.{◌≡◌, ℕ, ◌+◌, ◌<◌, false, cond, List, [], ◌++◌, length, ap, sym, subst, arith}
 use Rattle.flow_link.specs.declared.draft.BlockKind.{BlockKind}
 use Rattle.flow_link.specs.declared.draft.BlockKind.TheVariants.{Join}
 use Rattle.flow_link.specs.LinkOk.{IsWithin}
@@ -12,13 +12,14 @@ use Rattle.flow_group.specs.Tuples.{TuplesLaw}
 use Rattle.flow_group.proofs.TuplesSay.{tuples_tell}
 use Rattle.flow_block.specs.Block.{port_at, is_batch, is_join}
 use Rattle.flow_block.specs.Copies.{copies_weight}
-use Rattle.flow_reserving.specs.ReservingJoin.{ReservingState, fresh_join}
-use Rattle.flow_reserving.proofs.WishLaws.{ports_level}
+use Rattle.flow_kinds.specs.ReservingJoin.{ReservingState, fresh_join}
+use Rattle.flow_kinds.proofs.WishLaws.{ports_level}
 use Rattle.flow_history.specs.Calls.{Call, Step, AllDone, after_all}
 use Rattle.flow_history.specs.History.{History, nothing_yet, took_at, noted, history_of, gave_by}
 use Rattle.flow_history.specs.Kept.{makes_freely, places_left}
 use Rattle.flow_history.specs.Reserved.{MayCallReservingInOrder, DoesToReserving, FitsReserving, came_into, tuples_by, TookLevel, KeepsReserved, ReservedAreKept}
 use Rattle.flow_history.proofs.MessagesKept.{one_call, fresh_kept, keeps, only_given}
+use Rattle.flow_history.proofs.StepsKept.{fits_after, all_kept}
 use Rattle.flow_history.proofs.Still.{Kept}
 use Rattle.flow_history.proofs.WishesLeave.{wish_kept}
 
@@ -45,15 +46,9 @@ module _ (h : History) (old new : ReservingState) (kept : Kept false h old.block
 all_calls : (steps : List (Step Call ReservingState)) (old : ReservingState) (h : History) → FitsReserving old
     → AllDone FitsReserving MayCallReservingInOrder DoesToReserving steps old → Kept false h old.block
     → Kept false (history_of came_into tuples_by gave_by steps old h) (after_all steps old).block
-all_calls [] old h fits done kept = kept
-all_calls (step ∷ steps) old h fits done kept =
-    all_calls steps step.left (noted came_into tuples_by gave_by step.call old h) done.1.1.0 done.1.1.1
-    (join_call h old step.left kept fits step.call done.0 done.1.0)
-
-fits_after : (steps : List (Step Call ReservingState)) (old : ReservingState) → FitsReserving old
-    → AllDone FitsReserving MayCallReservingInOrder DoesToReserving steps old → FitsReserving (after_all steps old)
-fits_after [] old fits done = fits
-fits_after (step ∷ steps) old fits done = fits_after steps step.left done.1.1.0 done.1.1.1
+all_calls =
+    all_kept FitsReserving MayCallReservingInOrder DoesToReserving came_into tuples_by gave_by
+    (λ (h : History) (join : ReservingState). Kept false h join.block) join_call
 
 -- What the law says
 
@@ -105,5 +100,5 @@ reserved_kept = record {
       keeps_reserved (history_of came_into tuples_by gave_by steps fresh nothing_yet) (after_all steps fresh)
       (all_calls steps fresh nothing_yet fits done
       (fresh_kept Join 1 0 ports rules begins false (λ e. absurd (cc)) (λ e. absurd (cc))))
-      (fits_after steps fresh fits done);
+      (fits_after FitsReserving MayCallReservingInOrder DoesToReserving steps fresh fits done);
 }

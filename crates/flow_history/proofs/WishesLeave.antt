@@ -9,11 +9,11 @@ use Rattle.flow_intake.proofs.CallsKeepOrder.{moves_keep}
 use Rattle.flow_group.specs.Round.{port_in}
 use Rattle.flow_outlet.specs.Outlet.{OutletState}
 use Rattle.flow_block.specs.Block.{port_at}
-use Rattle.flow_reserving.specs.ReservingJoin.{ReservingState}
-use Rattle.flow_reserving.specs.WishLaws.{AsksFor}
-use Rattle.flow_reserving.specs.Wishes.{front_place, next_wish, after_wish}
-use Rattle.flow_reserving.proofs.WishesTell.{by_wish, claimed_held, released_held}
-use Rattle.flow_reserving.proofs.WishLaws.{wishes_tell}
+use Rattle.flow_kinds.specs.ReservingJoin.{ReservingState}
+use Rattle.flow_kinds.specs.WishLaws.{AsksFor}
+use Rattle.flow_kinds.specs.Wishes.{front_place, next_wish, after_wish}
+use Rattle.flow_kinds.proofs.WishesTell.{by_wish, claimed_held, released_held}
+use Rattle.flow_kinds.proofs.WishLaws.{wishes_tell}
 use Rattle.flow_history.specs.History.{Gift, History, took_at, given}
 use Rattle.flow_history.specs.Kept.{any_link}
 use Rattle.flow_history.proofs.CallsLeave.{Ordered, Leaves, nothing_leaves, one_ordered}

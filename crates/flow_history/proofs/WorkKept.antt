@@ -28,6 +28,7 @@ use Rattle.flow_history.specs.Worked.{WorkCall, gave_for, MayCallWorkInOrder, Fi
 use Rattle.flow_history.proofs.CallsLeave.{IsPlain, out_at}
 use Rattle.flow_history.proofs.MessagesKept.{nothing_added, only_made, fresh_kept, none_at, fits_in}
 use Rattle.flow_history.proofs.WorkTold.{works_so, shares_so, never, given_as, IsSingle}
+use Rattle.flow_history.proofs.StepsKept.{fits_after, all_kept}
 use Rattle.flow_history.proofs.WorkSteps.{BlockKept, began_kept, ended_kept, plain_kept, handed_kept}
 
 -- An execution block
@@ -116,10 +117,8 @@ module _ {W : Type 0} (meaning : W → Value → Result (List Value) WorkFault) 
   all_calls_kept : (steps : List (Step WorkCall (ExecutionState W))) (old : ExecutionState W) (h : History) → FitsWork old
       → AllDone FitsWork MayCallWorkInOrder (DoesWork meaning) steps old → ExecutionKept h old
       → ExecutionKept (history_of came_for (worked_out meaning) gave_for steps old h) (after_all steps old)
-  all_calls_kept [] old h fits done kept = kept
-  all_calls_kept (step ∷ steps) old h fits done kept =
-      all_calls_kept steps step.left (noted came_for (worked_out meaning) gave_for step.call old h) done.1.1.0 done.1.1.1
-      (call_kept h old step.left kept fits step.call done.0 done.1.0)
+  all_calls_kept =
+      all_kept FitsWork MayCallWorkInOrder (DoesWork meaning) came_for (worked_out meaning) gave_for ExecutionKept call_kept
 
   -- what the law says
   work_says : (h : History) (execution : ExecutionState W) → ExecutionKept h execution → FitsWork execution → KeepsWork meaning h execution
@@ -154,11 +153,6 @@ module _ {W : Type 0} (meaning : W → Value → Result (List Value) WorkFault) 
             fits_in (port_at 0 block).capacity (length (held_by block)) weight (weight_of block.exits.groups) (port_at 0 block).load (coming (port_at 0 block))
             less (out_at weight block.ports 0 first fits.fits.room) (kept.block.kept.in_order 0 first).room;
       }
-
-  fits_after : (steps : List (Step WorkCall (ExecutionState W))) (old : ExecutionState W) → FitsWork old
-      → AllDone FitsWork MayCallWorkInOrder (DoesWork meaning) steps old → FitsWork (after_all steps old)
-  fits_after [] old fits done = fits
-  fits_after (step ∷ steps) old fits done = fits_after steps step.left done.1.1.0 done.1.1.1
 
 -- nothing came, and nothing is worked on
 begins_as : (result : Value → Result (List Value) ℕ) (kind : BlockKind) → has_work kind ≡ true → MakesAs result kind [] [] [] [] []
@@ -211,5 +205,5 @@ work_is_kept W = record {
       let fresh = fresh_execution kind lanes work ports rules in
       work_says meaning kind work works (history_of came_for (worked_out meaning) gave_for steps fresh nothing_yet) (after_all steps fresh)
       (all_calls_kept meaning kind work works steps fresh nothing_yet fits done (fresh_work meaning kind lanes work ports rules works begins fits))
-      (fits_after meaning kind work works steps fresh fits done);
+      (fits_after FitsWork MayCallWorkInOrder (DoesWork meaning) steps fresh fits done);
 }

@@ -1,5 +1,5 @@
 -- Each call of a block with a function leaves what it made of its messages so accounted for.
-use Rattle.std.proofs.Common.{◌≡◌, ℕ, ◌+◌, ◌<◌, ◌^◌, ◌==◌, ltb, Bool, true, false, not, ◌&&◌, cond, is_none, List, [], ◌∷◌, ◌++◌, length, set, take, drop, Some, None, Result, Ok, Err, refl, ap, sym, subst, ◌∙◌, arith, append-nil, append_assoc, eq-eqb}
+use Rattle.std.proofs.Common.{◌≡◌, ℕ, ◌+◌, ◌<◌, ltb, Bool, true, false, ◌&&◌, cond, is_none, List, [], ◌∷◌, ◌++◌, length, set, take, drop, Some, None, Result, Ok, Err, refl, ap, sym, subst, ◌∙◌, arith, append-nil, append_assoc, eq-eqb}
 use Rattle.std.proofs.lemmas.Bool.{and_parts, ltb-true}
 use Rattle.std.proofs.lemmas.List.{length-map, length-set}
 use Rattle.flow_value.specs.declared.value.Value.{Value}
@@ -16,8 +16,7 @@ use Rattle.flow_intake.proofs.CallsKeepOrder.{moves_keep}
 use Rattle.flow_group.specs.Groups.{arrival_at}
 use Rattle.flow_group.specs.Tuples.{only_at}
 use Rattle.flow_outlet.specs.Outlet.{is_empty, groups_with}
-use Rattle.flow_spread.specs.Spread.{is_spread_free}
-use Rattle.flow_block.specs.Block.{BlockState, port_in, port_at, held_by, is_batch, is_join, with_jobs, keeps_results, fails, begins, yields_all, yields_where, ends_job, put_by_kind, put_where, put_by_job, job_message, copies_at_once, copies_where, copies_taken, unit_weight, puts_out}
+use Rattle.flow_block.specs.Block.{BlockState, port_in, port_at, held_by, is_batch, is_join, with_jobs, keeps_results, fails, begins, yields_all, yields_where, ends_job, put_by_kind, put_where, put_by_job, job_message, copies_taken, unit_weight, puts_out}
 use Rattle.flow_block.specs.Jobs.{out_count, Slot, AreOf, brings, comes_out, place_of, works_off}
 use Rattle.flow_block_law.specs.NodeLaw.{MakesAs, FaultsOn, WeighsAs}
 use Rattle.flow_block.specs.Peeks.{may_begin, may_work}
@@ -29,6 +28,7 @@ use Rattle.flow_block.proofs.PortsChange.{kept_at_all, kept_at_one}
 use Rattle.flow_lists.proofs.TestsTell.{none_is}
 use Rattle.flow_block_law.proofs.WeightsOfResults.{weighs_taken}
 use Rattle.flow_history.proofs.ExitsGo.{given_value, exits_go}
+use Rattle.flow_kinds.proofs.CopiesNone.{never_at_once, copies_none}
 use Rattle.flow_history.specs.Calls.{Call, MayCall, MayCallInOrder, Does, Fits}
 use Rattle.flow_history.specs.History.{History, took_at, given, came_by, copied_at_once, made_by, gave_by, Gift}
 use Rattle.flow_history.specs.Kept.{any_link, hands_on}
@@ -331,10 +331,9 @@ module _ (result : Value → Result (List Value) ℕ) (kind : BlockKind) (works 
         let p = port_into link old.ports in
         let arrived = with_port_of link (arrives link value) old in
         let call = Call.takes (TargetCall.handed link header value) in
-        let once : copies_at_once arrived ≡ false =
-        ap (λ (b : Bool). b && length arrived.ports == 1 && not (is_empty (held_by arrived)) && is_spread_free old.copies
-        && ltb (old.copies.id + 1) (2 ^ 59)) (ap is_write_once kept.kind_is ∙ is_not.many) in
-        let same : new ≡ arrived = is ∙ ap (λ (b : Bool). copies_where b arrived) once in
+        let many : is_write_once arrived.kind ≡ false = ap is_write_once kept.kind_is ∙ is_not.many in
+        let once = never_at_once arrived many in
+        let same : new ≡ arrived = is ∙ copies_none arrived many in
         let none : copied_at_once arrived ≡ [] = ap (λ (b : Bool). cond b (take 1 (held_by arrived)) []) once in
         let l = there false h old kept.kept link header value may in
         let mine : p ≡ 0 = (let one = kept.one_port in omega (arith, l, one)) in

@@ -9,8 +9,8 @@ use Rattle.flow_group.specs.Group.{group_of}
 use Rattle.flow_group.specs.Groups.{GroupsLaw}
 use Rattle.flow_group.specs.Tuple.{held_at, all_ended}
 use Rattle.flow_outlet.specs.declared.ends.LinkRule.{LinkRule}
-use Rattle.flow_batched.specs.BatchedJoin.{JoinState, Tells, waits, fresh_join}
-use Rattle.flow_batched.specs.Calls.{Learns, Acts, Gives, Takes}
+use Rattle.flow_kinds.specs.BatchedJoin.{JoinState, Tells, waits, fresh_join}
+use Rattle.flow_kinds.specs.BatchedCalls.{Learns, Acts, Gives, Takes}
 use Rattle.flow_link.specs.LinkOk.{IsWithin}
 use Rattle.flow_block.specs.Block.{port_at}
 use Rattle.flow_history.specs.Calls.{MayCallInOrder, Call, MayCall, Fits, Step, AllDone, after_all}

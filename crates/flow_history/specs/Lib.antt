@@ -6,3 +6,4 @@ pub mod Kept
 pub mod Ordered
 pub mod Reserved
 pub mod Worked
+pub mod WriteOnce

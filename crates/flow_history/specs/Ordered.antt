@@ -18,9 +18,9 @@ use Rattle.flow_outlet.specs.declared.ends.LinkRule.{LinkRule}
 use Rattle.flow_block.specs.Block.{BlockState}
 use Rattle.flow_block.specs.BlockFits.{fresh_block}
 use Rattle.flow_group.specs.declared.round.Source.{Source}
-use Rattle.flow_batched.specs.BatchedJoin.{JoinState, fresh_join}
+use Rattle.flow_kinds.specs.BatchedJoin.{JoinState, fresh_join}
 use Rattle.flow_exec.specs.Execution.{ExecutionState, fresh_execution, lacks_job_ids}
-use Rattle.flow_reserving.specs.ReservingJoin.{ReservingState, fresh_join as fresh_reserving}
+use Rattle.flow_kinds.specs.ReservingJoin.{ReservingState, fresh_join as fresh_reserving}
 use Rattle.flow_history.specs.Calls.{Call, MayCall, Does, Fits, Step, AllDone, after_all}
 use Rattle.flow_history.specs.Grouped.{MayCallJoin, DoesToJoin, FitsJoin, came_to, grouped_by}
 use Rattle.flow_history.specs.History.{Gift, nothing_yet, given_over, came_by, made_by, gave_by, history_of}

@@ -11,8 +11,8 @@ use Rattle.flow_group.specs.Round.{none_comes}
 use Rattle.flow_group.specs.Tuple.{held_at}
 use Rattle.flow_group.specs.Tuples.{TuplesLaw}
 use Rattle.flow_block.specs.Block.{port_at}
-use Rattle.flow_reserving.specs.Calls.{Learns, Acts, Gives, Takes}
-use Rattle.flow_reserving.specs.ReservingJoin.{ReservingState, ReservingFits, fresh_join}
+use Rattle.flow_kinds.specs.ReservingCalls.{Learns, Acts, Gives, Takes}
+use Rattle.flow_kinds.specs.ReservingJoin.{ReservingState, ReservingFits, fresh_join}
 use Rattle.flow_history.specs.Calls.{Call, MayCall, MayCallInOrder, Fits, Step, AllDone, after_all}
 use Rattle.flow_history.specs.History.{History, nothing_yet, took_at, given, came_by, made_by, history_of, gave_by}
 use Rattle.flow_history.specs.Kept.{NothingCame}

@@ -6,6 +6,7 @@ ghost use Rattle.flow_history.specs.Kept.{MessagesAreKept, NewPortsTookNothing};
 ghost use Rattle.flow_history.specs.Ordered.{MessagesGoByRule, MessagesGoInOrder};
 ghost use Rattle.flow_history.specs.Reserved.{ReservedAreKept};
 ghost use Rattle.flow_history.specs.Worked.{WorkIsKept};
+ghost use Rattle.flow_history.specs.WriteOnce.{WriteOnceTakesOne};
 
 /// Nothing came to ports that were just made. From a block with such ports the other laws begin.
 pub fn new_ports_took_nothing()
@@ -64,4 +65,12 @@ pub fn copies_are_given()
 /// wholly given, and what comes fit into the capacity.
 pub fn work_is_kept<W>()
     ensures { WorkIsKept W }
+{}
+
+/// Whatever is called, a write-once block of a plan takes one message in all, and holds none. It copies the message that
+/// it took, and has that left, or nothing. Where targets answer by the rules of their links, and nothing is left of what it
+/// took, each link was given the message, rejects it, refused, or gave as many as it may; what is left is to come over some
+/// link that admits it and was not given it.
+pub fn write_once_takes_one<W>()
+    ensures { WriteOnceTakesOne W }
 {}

@@ -4,6 +4,9 @@
 //! the laws ask of a call is what its contract asks, and what it does is what its contract says. So whoever makes such calls has the
 //! laws of what the block took, made and gave. Those of what it keeps ask, as ports count, that nothing comes to a port that
 //! completes, or to a block that faults; where each end at the ports is the one that its link names, the contract asks the same.
+//!
+//! The states are those of [`flow_kinds`] and of what stands below it: a block, a batched join with the order in which its
+//! messages came, a join that reserves with its round, a block with a function and its work.
 #![tactic(auto)]
 
 mod laws;
@@ -11,4 +14,5 @@ mod laws;
 pub use laws::{
     copies_are_given, groups_are_kept, messages_are_kept, messages_go_by_rule,
     messages_go_in_order, new_ports_took_nothing, reserved_messages_are_kept, work_is_kept,
+    write_once_takes_one,
 };

@@ -1,20 +1,16 @@
--- An execution block and a batched join stay of their kind by each call.
-use Rattle.std.proofs.Common.{◌≡◌, ℕ, Bool, true, false, List, Option, Some, None, Result, Ok, Err, IfOk, IfSome, OnOk, OnErr, refl, ap, ◌∙◌}
+-- An execution block stays of its kind by each call.
+use Rattle.std.proofs.Common.{◌≡◌, ℕ, Bool, List, Option, Some, None, Result, Ok, Err, IfOk, IfSome, OnOk, OnErr, refl, ap, ◌∙◌}
 use Rattle.std.specs.declared.alloc.AllocError.{AllocError}
 use Rattle.flow_value.specs.declared.value.Value.{Value}
 use Rattle.flow_value.specs.declared.work.WorkFault.{WorkFault}
 use Rattle.flow_value.specs.declared.message.MessageStatus.{MessageStatus}
-use Rattle.flow_link.specs.BlockCalls.{BlockCall}
 use Rattle.flow_link.specs.SourceCalls.{SourceCall}
 use Rattle.flow_link.specs.TargetCalls.{TargetCall}
 use Rattle.flow_link.specs.declared.draft.BlockKind.{BlockKind}
-use Rattle.flow_link.specs.declared.traits.MakeFault.TheVariants as make_fault
 use Rattle.flow_exec.specs.Calls.{Gives, Takes}
 use Rattle.flow_exec.specs.Execution.{ExecutionState, begins_job, job_result, ends_own_job}
 use Rattle.flow_exec.specs.declared.job.Job.{Job}
-use Rattle.flow_batched.specs.BatchedJoin.{JoinState}
-use Rattle.flow_batched.specs.Calls.{Acts as JoinActs, Gives as JoinGives, Takes as JoinTakes}
-use Rattle.flow_kinds.proofs.KindsStay.{acts_stay, gives_stay, takes_stay, ended_kind}
+use Rattle.flow_kinds.proofs.KindsStay.{gives_stay, takes_stay, ended_kind}
 
 -- Where memory is out, it stays as it was
 
@@ -56,30 +52,3 @@ module _ {W : Type 0} (old new : ExecutionState W) where
   end_kind meaning ticket (Ok done) ends kept =
       ap kind_of ends ∙ ended_kind ticket old.block (job_result meaning ticket old)
   end_kind meaning ticket (Err error) ends kept = ap kind_of kept
-
--- A batched join
-
-module _ (old new : JoinState) where
-  abbrev pub kind_in : JoinState → BlockKind
-  kind_in join = join.block.kind
-
-  pub join_acts : (call : BlockCall) → JoinActs old call new → new.block.kind ≡ old.block.kind
-  join_acts (BlockCall.completed p) does = (acts_stay old.block new.block (BlockCall.completed p) does.0).kind
-  join_acts (BlockCall.faulted number) does = (acts_stay old.block new.block (BlockCall.faulted number) does.0).kind
-  join_acts (BlockCall.made (Ok true)) does = ap kind_in does.1.1
-  join_acts (BlockCall.made (Ok false)) does = ap kind_in does.1
-  join_acts (BlockCall.made (Err make_fault.Ids)) does = ap kind_in does.1.1
-  join_acts (BlockCall.made (Err make_fault.Memory)) does = ap kind_in does.1.1
-
-  pub join_offers : (result : Result (Option (ℕ × ℕ)) AllocError) → IfOk result (λ offer. JoinGives old (SourceCall.offered offer) new)
-      → OnErr result (new ≡ old) → new.block.kind ≡ old.block.kind
-  join_offers result =
-      same_on_ok kind_in old new (λ offer. JoinGives old (SourceCall.offered offer) new) result
-      (λ offer done. (gives_stay old.block new.block (SourceCall.offered offer) done.0).kind)
-
-  pub join_answers : (link header : ℕ) (may_postpone : Bool) (result : Result MessageStatus AllocError)
-      → IfOk result (λ how. JoinTakes old (TargetCall.offered link header may_postpone how) new)
-      → OnErr result (new ≡ old) → new.block.kind ≡ old.block.kind
-  join_answers link header may_postpone result =
-      same_on_ok kind_in old new (λ how. JoinTakes old (TargetCall.offered link header may_postpone how) new) result
-      (λ how done. (takes_stay old.block new.block (TargetCall.offered link header may_postpone how) done.0).kind)

@@ -2,9 +2,11 @@
 //!
 //! A [`flow_block::Block`] has the code of all kinds, and a field says which kind it is. Here each kind is a type of its
 //! own, thin over such a block: [`Buffer`], [`Broadcast`], [`WriteOnce`], [`Batch`] and [`GreedyJoin`] are a
-//! [`TypedBlock`], [`Action`], [`Transform`] and [`TransformMany`] a [`TypedExecution`]. [`BatchedJoin`], which keeps the
-//! order in which its messages came, and [`ReservingJoin`], which keeps how far its round is, are of their kinds as they
-//! are.
+//! [`TypedBlock`], [`Action`], [`Transform`] and [`TransformMany`] a [`TypedExecution`].
+//!
+//! What a block alone does not tell, and in a network its node does, two types keep beside it. A [`BatchedJoin`] notes the
+//! port of each message as it comes, so it makes its groups by itself. A [`ReservingJoin`] keeps the round of its offers: which
+//! are asked for, kept or claimed as one. So it wishes by itself for one message of each port, and takes all of them or none.
 //!
 //! `new` takes the block of a plan with its ports and links, as a network does. So a caller who drives blocks by hand
 //! writes no ports and no rules of links, and what the plan says of a link holds here too. That the block of the plan is
@@ -17,14 +19,21 @@
 //! `ActionBlock`, `TransformBlock`, `TransformManyBlock`.
 #![tactic(auto)]
 
+mod batched_calls;
+mod batched_join;
 mod block;
 mod block_calls;
 mod execution;
 mod execution_calls;
 pub mod kind;
+mod laws;
 mod planned;
+mod reserving_calls;
+mod reserving_join;
+mod wishes;
 
+pub use batched_join::BatchedJoin;
 pub use block::{Batch, Broadcast, Buffer, GreedyJoin, TypedBlock, WriteOnce};
 pub use execution::{Action, Transform, TransformMany, TypedExecution};
-pub use flow_batched::BatchedJoin;
-pub use flow_reserving::ReservingJoin;
+pub use laws::wishes_tell;
+pub use reserving_join::ReservingJoin;

@@ -1,4 +1,0 @@
-pub mod DueMessages
-pub mod GroupsGoOn
-pub mod OrderTells
-pub mod PlannedGroups

@@ -1,5 +1,0 @@
-use Rattle.flow_batched.proofs.DueMessages.{wish_fits}
-use Rattle.flow_batched.proofs.traits.BatchedJoinTargetBlock.next_wish.Goals as goal
-
-pub invariant_of-self : goal.invariant_of-self
-invariant_of-self c = wish_fits c.self.inside.block c.next_wish.new.self c.self.inside.order c.self.invariant c.next_wish.ensures.takes.1

@@ -1,2 +1,0 @@
-pub mod BatchedJoin
-pub mod Calls

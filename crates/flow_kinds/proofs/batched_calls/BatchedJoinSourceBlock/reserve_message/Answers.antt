@@ -1,0 +1,9 @@
+use Rattle.flow_kinds.proofs.BlockStays.{keep_stays}
+use Rattle.flow_kinds.proofs.DueMessages.{stays_fit}
+use Rattle.flow_kinds.proofs.batched_calls.BatchedJoinSourceBlock.reserve_message.Goals as goal
+
+pub invariant_of-self : goal.invariant_of-self
+invariant_of-self c =
+    let inside = c.self.inside in
+    stays_fit inside.block c.reserve_message.new.self inside.order c.self.invariant
+    (keep_stays inside.block c.reserve_message.new.self c.args.link c.args.header c.reserve_message.ensures.gives.1)

@@ -1,0 +1,9 @@
+use Rattle.flow_kinds.proofs.BlockStays.{give_stays}
+use Rattle.flow_kinds.proofs.JoinFits.{stays_fit}
+use Rattle.flow_kinds.proofs.reserving_calls.ReservingJoinSourceBlock.consume_message.Goals as goal
+
+pub invariant_of-self : goal.invariant_of-self
+invariant_of-self c =
+    let inside = c.self.inside in
+    stays_fit inside.block c.consume_message.new.self inside.round c.self.invariant
+    (give_stays inside.block c.consume_message.new.self c.args.link c.args.header c.consume_message.ensures.gives.1)

@@ -1,3 +1,0 @@
-pub mod LinksServed
-pub mod OnceByHand
-pub mod OnceInPlans

@@ -1,5 +1,0 @@
-use Rattle.flow_once.proofs.OnceInPlans.{takes_one}
-use Rattle.flow_once.proofs.laws.write_once_takes_one.Goals as goal
-
-pub returns : goal.returns
-returns g c = takes_one _

@@ -1,9 +1,0 @@
-use Rattle.flow_reserving.proofs.BlockStays.{settle_stays}
-use Rattle.flow_reserving.proofs.JoinFits.{stays_fit}
-use Rattle.flow_reserving.proofs.traits.ReservingJoinCompleting.completion.Goals as goal
-
-pub invariant_of-self : goal.invariant_of-self
-invariant_of-self c =
-    let inside = c.self.inside in
-    stays_fit inside.block c.completion.new.self inside.round c.self.invariant
-    (settle_stays inside.block c.completion.new.self c.completion.ensures.learns)

@@ -1,6 +1,0 @@
-use Rattle.flow_reserving.proofs.JoinFits.{make_fits}
-use Rattle.flow_reserving.proofs.traits.ReservingJoinDataflowBlock.make.Goals as goal
-
-pub invariant_of-self : goal.invariant_of-self
-invariant_of-self c =
-    make_fits c.self.inside.block c.make.new.self c.self.inside.round c.self.invariant c.make.result c.make.ensures.acts
