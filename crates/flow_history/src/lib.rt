@@ -7,12 +7,17 @@
 //!
 //! The states are those of [`flow_kinds`] and of what stands below it: a block, a batched join with the order in which its
 //! messages came, a join that reserves with its round, a block with a function and its work.
+//!
+//! A caller who knows a block by its traits alone has laws of traits: by [`SteadyTarget`] and [`PropagatorBlock`] its ports stay,
+//! whatever is called.
 #![tactic(auto)]
 
 mod laws;
+mod steady;
 
 pub use laws::{
     copies_are_given, groups_are_kept, messages_are_kept, messages_go_by_rule,
     messages_go_in_order, new_ports_took_nothing, reserved_messages_are_kept, work_is_kept,
     write_once_takes_one,
 };
+pub use steady::{PropagatorBlock, SteadyTarget};

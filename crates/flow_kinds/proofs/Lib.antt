@@ -6,6 +6,7 @@ pub mod FreshRound
 pub mod GroupsGoOn
 pub mod JoinFits
 pub mod KindsStay
+pub mod LinksStay
 pub mod OffersAnswered
 pub mod OrderTells
 pub mod PlannedBlocks

@@ -4,5 +4,6 @@ pub mod Kinds
 pub mod ReservingCalls
 pub mod ReservingJoin
 pub mod RoundOrder
+pub mod Steady
 pub mod WishLaws
 pub mod Wishes

@@ -15,7 +15,7 @@ use std::alloc::Global;
 use std::process::Abort;
 
 /// The first block of this plan, which is a buffer.
-fn first(rt: &impl Abort, alloc: Global, plan: &Plan<Steps>) -> Buffer
+pub(crate) fn first(rt: &impl Abort, alloc: Global, plan: &Plan<Steps>) -> Buffer
     ensures rests { (link : ℕ) → target_over result.ports link ≡ Free }
 {
     if plan.block_count() == 0 || plan.block(0).kind != BlockKind::Buffer {
