@@ -6,6 +6,7 @@
 //! judges again. Each way of doing events is a lawful one, so the judgement may be wrong: it costs time, and nothing else.
 #![tactic(auto)]
 
+mod hand_over;
 mod pace;
 mod run;
 mod short;

@@ -4,6 +4,7 @@ ghost use Rattle.flow_net.specs.Net.{NetNeedsId};
 ghost use Rattle.flow_net.specs.declared.fault.NetFault.TheVariants.{NotEnabled, Ids};
 ghost use Rattle.flow_crew.specs.Runs.{RunsOn};
 
+use crate::hand_over::hand_over;
 use crate::pace::{Pace, SHORT, SHORT_IN_LANES, Watch};
 use crate::used::used;
 use flow_net::{Net, NetFault, Settled};
@@ -32,12 +33,13 @@ pub(crate) fn settle_while_short<W: Runs, R: CpuClock>(
     let mut left = limit;
     while left > 0 {
         let share = pace.share().min(left);
-        match net.settle(alloc, share) {
-            Ok(Settled::Stopped) => left -= share,
+        let done = match net.settle(alloc, share) {
+            Ok(Settled::Stopped) => share + hand_over(alloc, net, left - share),
             Ok(Settled::Quiet) => return Ok(0),
             Err(fault) => return Err(fault),
-        }
-        if pace.is_long(share, used(rt)) {
+        };
+        left -= done;
+        if pace.is_long(done, used(rt)) {
             break;
         }
     }
