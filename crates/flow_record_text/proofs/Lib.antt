@@ -1,2 +1,3 @@
 pub mod NamesDiffer
+pub mod PlacesFound
 pub mod RecordsPost

@@ -1,9 +1,9 @@
 -- How the values of each input grow by the records that are read.
-use Rattle.std.proofs.Common.{◌≡◌, ◌≤◌, ◌<◌, ◌+◌, ◌-◌, ◌^◌, min, ℕ, suc, zero, List, [], ◌∷◌, ◌++◌, length, take, get_or, set, map, refl, ap, sym, ◌∙◌, arith, append_assoc, length-append, Option, Some, None, Bool, true, false, cond, subst, nat_eq, Bor, position, replicate}
-use Rattle.std.specs.Prelude.{IfSome, not, option_map}
-use Rattle.std.specs.List.{filter, prefix_len}
+use Rattle.std.proofs.Common.{◌≡◌, ◌≤◌, ◌<◌, ◌+◌, ◌-◌, ◌^◌, min, ℕ, suc, zero, List, [], ◌∷◌, ◌++◌, length, take, get_or, set, map, refl, ap, sym, ◌∙◌, arith, append_assoc, length-append, Option, Some, None, Bool, true, false, cond, subst, nat_eq, replicate, inl, inr, ◌⊎◌}
+use Rattle.std.specs.Prelude.{IfSome, option_map}
+use Rattle.std.specs.List.{filter}
 use Rattle.std.specs.Str.{bytes_eq, IsUtf8}
-use Rattle.std.proofs.lemmas.List.{append-nil, map-append, take_more, length-map, get_or-map, map-set}
+use Rattle.std.proofs.lemmas.List.{append-nil, map-append, take_more, get_or-map, map-set}
 use Rattle.std.proofs.Math.Seq.{map-set_same}
 use Rattle.flow_link.specs.declared.posted.Posted.{Posted}
 use Rattle.csv.specs.Records.{field_at}
@@ -20,18 +20,10 @@ use Rattle.csv.specs.declared.parser.State.TheVariants as at
 use Rattle.csv.proofs.ReadFacts.{rows-more, rows-end}
 use Rattle.flow_fault_text.specs.declared.fault.TextFault.{TextFault}
 use Rattle.flow_fault_text.specs.declared.fault.TextFault.TheVariants.{Csv, NotUtf8, UnknownInput, Read}
-use Rattle.flow_fault_text.specs.declared.fault.TextRefusal.TheVariants.{Fault}
-use Rattle.flow_record_text.specs.Records.{HasFault, HasNoInput, IsFirstFault, IsOfRecords, Explains, PostAll, told_number, room, Row, texts_of, input_names, input_named, is_this, posts_to, value_of, values_for, records, AllDiffer, IsFine, AllFine, PostsTo, posted_values, posted_endings}
-
--- a place among references is that among what they point to
-prefix-texts : (test : List ℕ → Bool) (names : List (Bor (List ℕ))) → prefix_len (λ name. not (test name.now)) names ≡ prefix_len (λ name. not (test name)) (texts_of names)
-prefix-texts test [] = refl
-prefix-texts test (name ∷ names) = ap (λ n. cond (not (test name.now)) (1 + n) 0) (prefix-texts test names)
-
-pub named-texts : (names : List (Bor (List ℕ))) (name : List ℕ) → position (λ other. bytes_eq other.now name) names ≡ input_named (texts_of names) name
-named-texts names name =
-    let same = prefix-texts (λ other. bytes_eq other name) names in
-    rw (same, ← length-map names (λ (other : Bor (List ℕ)). other.now)) refl
+use Rattle.flow_fault_text.specs.declared.fault.TextRefusal.{TextRefusal}
+use Rattle.flow_fault_text.specs.declared.fault.TextRefusal.TheVariants.{Fault, Memory}
+use Rattle.flow_record_text.specs.Places.{HasNoInput}
+use Rattle.flow_record_text.specs.Records.{HasFault, IsFirstFault, IsOfRecords, Explains, PostAll, told_number, room, Row, texts_of, input_names, input_named, is_this, posts_to, value_of, values_for, records, AllDiffer, IsFine, AllFine, PostsTo, posted_values, posted_endings}
 
 -- a block's name, if it is an input
 input_names-append : {W : Type 0} (front back : List (BlockDef W)) → input_names (front ++ back) ≡ input_names front ++ input_names back
@@ -195,7 +187,7 @@ posts-found names (name ∷ field ∷ []) i text two found is second = (found.0,
 
 -- and why a record can't be posted whose name is that of no input
 pub faulty-name : (names : List (List ℕ)) (number : ℕ) (row : Row) (text : List ℕ) (fault : TextFault) → length row ≡ 2
-    → text ≡ get_or row 1 [] → IsUtf8 text → HasNoInput names number (get_or row 0 []) fault → HasFault names number row fault
+    → text ≡ get_or row 1 [] → IsUtf8 text → HasNoInput (input_named names (get_or row 0 [])) number (get_or row 0 []) fault → HasFault names number row fault
 faulty-name names number [] text fault two is second refused = absurd (omega (arith, two))
 faulty-name names number (_ ∷ []) text fault two is second refused = absurd (omega (arith, two))
 faulty-name names number (_ ∷ _ ∷ _ ∷ rest) text fault two is second refused = absurd (omega (arith, two))
@@ -218,6 +210,13 @@ explained names bytes (Csv n) first = first
 explained names bytes (NotUtf8 n) first = first
 explained names bytes (UnknownInput n) first = first
 explained names bytes _ first = first
+
+-- nothing is said of a reader that failed, nor of memory
+pub unexplained : (names : List (List ℕ)) (bytes : Option (List ℕ)) (refusal : TextRefusal) → (refusal ≡ Memory) ⊎ (refusal ≡ Fault Read)
+    → IfSome bytes (λ text. Explains names text refusal)
+unexplained names None refusal why = tt
+unexplained names (Some bytes) refusal (inl why) = subst (λ (told : TextRefusal). Explains names bytes told) (sym why) tt
+unexplained names (Some bytes) refusal (inr why) = subst (λ (told : TextRefusal). Explains names bytes told) (sym why) tt
 
 -- the number of the next record
 next-number : (number next count : ℕ) → number ≡ told_number count → next ≡ min (number + 1) (2 ^ 64 - 1) → next ≡ told_number (count + 1)

@@ -92,12 +92,6 @@ HasFault names number (first ∷ second ∷ []) (NotUtf8 n) = (n ≡ number) × 
 HasFault names number (first ∷ second ∷ []) (UnknownInput n) = (n ≡ number) × IsUtf8 first × IsUtf8 second × (input_named names first ≡ None)
 HasFault names number _ _ = ⊥
 
--- why a name is that of no input
-abbrev pub HasNoInput : List (List ℕ) → ℕ → List ℕ → TextFault → Type 0
-HasNoInput names number name (NotUtf8 n) = (n ≡ number) × (IsUtf8 name → ⊥)
-HasNoInput names number name (UnknownInput n) = (n ≡ number) × IsUtf8 name × (input_named names name ≡ None)
-HasNoInput names number name _ = ⊥
-
 -- a text's records, all of which can be posted, post these values
 abbrev pub PostAll : List (List ℕ) → List ℕ → List (List Value) → Type 0
 PostAll names bytes values =

@@ -1,12 +1,13 @@
 //! Reads records: each names an input and has a value for it.
 ghost use Rattle.std.specs.Prelude.{◌≡◌, ◌<◌, ◌+◌, ◌∷◌, ◌++◌, ◌⊎◌, [], length, replicate, get_or, set, IfOk, IfErr};
-ghost use Rattle.std.specs.Prelude.{OnOk, IfSome, MatchOption, MatchResult, Some, cond, option_map, position, true};
-ghost use Rattle.std.specs.Str.{IsUtf8, bytes_eq};
+ghost use Rattle.std.specs.Prelude.{OnOk, IfSome, MatchOption, MatchResult, Some, cond, option_map, true};
+ghost use Rattle.std.specs.Str.{IsUtf8};
 ghost use Rattle.csv.specs.Reading.{ReadRecord, reader_state, source_of, strip_bom};
 ghost use Rattle.csv.specs.Records.{fields_of};
 ghost use Rattle.csv.specs.declared.parser.State.TheVariants as at;
 ghost use Rattle.flow_link.specs.Planned.{layout_of};
-ghost use Rattle.flow_record_text.specs.Records.{texts_of, input_names, input_named, AllDiffer, HasFault, HasNoInput, PostsTo, PostAll};
+ghost use Rattle.flow_record_text.specs.Records.{texts_of, input_names, AllDiffer, HasFault, PostsTo, PostAll};
+ghost use Rattle.flow_record_text.specs.Places.{place_in, FindsInputs, HasNoInput};
 ghost use Rattle.flow_record_text.specs.Field.{text_in};
 ghost use Rattle.flow_record_text.specs.Records.{IsOfRecords, Explains, TakesAll, room, posted_values, posted_endings};
 
@@ -15,6 +16,7 @@ use flow_fault_text::{TextFault, TextRefusal};
 use flow_link::{BlockDef, Ending, Plan, Posted};
 use flow_value::{Steps, Text, Value};
 use std::alloc::Global;
+use std::collections::HashMap;
 use std::io::Read;
 
 fn names_of<'p>(alloc: Global, plan: &'p Plan<Steps>) -> Result<Vec<&'p str>, TextRefusal>
@@ -41,17 +43,19 @@ fn push_name<'p>(names: &mut Vec<&'p str>, block: &'p BlockDef<Steps>) -> Result
     Ok(())
 }
 
-// The number of the input with this name.
-fn find_input(names: &[&str], name: &str) -> Option<usize>
-    ensures { result ≡ input_named (texts_of names.now) name.now }
+// Where each of these names stands. A name is found there at once, however many there are.
+fn places_of<'p>(alloc: Global, names: &[&'p str]) -> Result<HashMap<&'p str, usize>, TextRefusal>
+    requires { AllDiffer (texts_of names.now) }
+    ensures places { IfOk result (λ places. FindsInputs places (texts_of names.now)) }
+    ensures refused { IfErr result (λ refusal. refusal ≡ TextRefusal.Memory) }
 {
-    name_place(names, name)
-}
-
-fn name_place(names: &[&str], name: &str) -> Option<usize>
-    ensures { result ≡ position (λ other. bytes_eq other.now name.now) names.now }
-{
-    names.iter().position(|other| *other == name)
+    let mut places = HashMap::new(alloc);
+    for (place, name) in names.iter().enumerate() {
+        if places.insert(*name, place).is_err() {
+            return Err(TextRefusal::Memory);
+        }
+    }
+    Ok(places)
 }
 
 #[inline(always)]
@@ -142,19 +146,24 @@ fn likely_input(row: &ByteRecord, names: &[&str], last: usize) -> Option<usize>
 }
 
 // The input that a record names, as it is found among all of them, or why there is none.
-#[cold]
-fn named_input(names: &[&str], row: &ByteRecord, number: u64) -> Result<usize, TextFault>
+#[inline(never)]
+fn named_input(
+    places: &HashMap<&str, usize>,
+    row: &ByteRecord,
+    number: u64,
+) -> Result<usize, TextFault>
     requires { 0 < length (fields_of row.now) }
     ensures { MatchResult result
-        (λ input. (input_named (texts_of names.now) (get_or (fields_of row.now) 0 []) ≡ Some input)
+        (λ input. (place_in places.now (get_or (fields_of row.now) 0 []) ≡ Some input)
         × IsUtf8 (get_or (fields_of row.now) 0 []))
-        (λ fault. HasNoInput (texts_of names.now) number (get_or (fields_of row.now) 0 []) fault) }
+        (λ fault. HasNoInput (place_in places.now (get_or (fields_of row.now) 0 [])) number
+        (get_or (fields_of row.now) 0 []) fault) }
 {
     let Some(name) = text_field(row, 0) else {
         return Err(TextFault::NotUtf8(number));
     };
-    match find_input(names, name) {
-        Some(input) => Ok(input),
+    match places.get(name) {
+        Some(input) => Ok(*input),
         None => Err(TextFault::UnknownInput(number)),
     }
 }
@@ -163,11 +172,13 @@ fn named_input(names: &[&str], row: &ByteRecord, number: u64) -> Result<usize, T
 #[inline(always)]
 fn read_fields<'r>(
     names: &[&str],
+    places: &HashMap<&str, usize>,
     last: usize,
     row: &'r ByteRecord,
     number: u64,
 ) -> Result<(usize, Field<'r>), TextFault>
-    requires { AllDiffer (texts_of names.now) }
+    requires differ { AllDiffer (texts_of names.now) }
+    requires places { FindsInputs places.now (texts_of names.now) }
     ensures { MatchResult result (λ found. PostsTo (texts_of names.now) (fields_of row.now) found.0 (text_in found.1))
         (λ fault. HasFault (texts_of names.now) number (fields_of row.now) fault) }
 {
@@ -180,7 +191,7 @@ fn read_fields<'r>(
     if let Some(input) = likely_input(row, names, last) {
         return Ok((input, text));
     }
-    match named_input(names, row, number) {
+    match named_input(places, row, number) {
         Ok(input) => Ok((input, text)),
         Err(fault) => Err(fault),
     }
@@ -297,6 +308,7 @@ fn read_named<R: Read + Drop>(
     ensures refused { IfErr result (λ refusal. IfSome (R.remaining reader)
         (λ bytes. Explains (texts_of names.now) bytes refusal)) }
 {
+    let places = places_of(alloc, names)?;
     let mut records = record_reader(alloc, reader);
     let mut row = ByteRecord::new(alloc);
     let mut posted = nothing_posted(alloc, names.len())?;
@@ -309,7 +321,7 @@ fn read_named<R: Read + Drop>(
             return Ok(posted);
         }
         number = number.saturating_add(1);
-        match read_fields(names, last, &row, number) {
+        match read_fields(names, &places, last, &row, number) {
             Ok((input, text)) => {
                 post(alloc, &mut posted, input, text)?;
                 last = input;

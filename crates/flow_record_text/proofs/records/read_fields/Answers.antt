@@ -1,4 +1,4 @@
-use Rattle.std.proofs.Common.{rules, Bor, List, ℕ, arith}
+use Rattle.std.proofs.Common.{rules, Bor, List, ℕ, [], get_or, ◌∙◌, sym, arith}
 use Rattle.std.proofs.lemmas.List.{length-map}
 use Rattle.csv.specs.Records.{fields_of}
 use Rattle.flow_record_text.specs.Records.{texts_of}
@@ -11,9 +11,10 @@ returns-in-Some-likely_input c =
     let found = c.in-Some-likely_input.ensures in
     let count = length-map c.args.names.now (λ (name : Bor (List ℕ)). name.now) in
     let low = found.there in
-    posts-named (texts_of c.args.names.now) (fields_of c.args.row.now) c.in-Some-likely_input.input (text_in c.in-Some.text) c.requires
+    posts-named (texts_of c.args.names.now) (fields_of c.args.row.now) c.in-Some-likely_input.input (text_in c.in-Some.text) c.requires.differ
     (search rules) (omega (arith, count, low)) found.named found.utf8 (search rules) (search rules)
 
 pub returns-in-Ok : goal.returns-in-Ok
 returns-in-Ok c =
-    posts-found (texts_of c.args.names.now) (fields_of c.args.row.now) c.in-Ok.input (text_in c.in-Some.text) (search rules) c.in-Ok.ensures (search rules) (search rules)
+    let found = sym (c.requires.places (get_or (fields_of c.args.row.now) 0 [])) ∙ c.in-Ok.ensures.0 in
+    posts-found (texts_of c.args.names.now) (fields_of c.args.row.now) c.in-Ok.input (text_in c.in-Some.text) (search rules) (found, c.in-Ok.ensures.1) (search rules) (search rules)

@@ -1,10 +1,11 @@
-use Rattle.std.proofs.Common.{◌≡◌, ◌∙◌, rules, Bor, List, ℕ, length, ap, sym, arith}
+use Rattle.std.proofs.Common.{◌≡◌, ◌∙◌, rules, Bor, List, ℕ, length, ap, sym, inl, arith}
 use Rattle.std.proofs.lemmas.List.{length-map, length-replicate}
+use Rattle.std.proofs.lemmas.Result.{err_from_is_err_and}
 use Rattle.csv.specs.Records.{fields_of}
 use Rattle.flow_link.specs.declared.posted.Posted.{Posted}
 use Rattle.flow_record_text.specs.Records.{texts_of, posted_values}
 use Rattle.flow_record_text.specs.Field.{text_in}
-use Rattle.flow_record_text.proofs.RecordsPost.{read-start, read-more, read-end, read-fault, fault-of_records, posts-within}
+use Rattle.flow_record_text.proofs.RecordsPost.{read-start, read-more, read-end, read-fault, fault-of_records, posts-within, unexplained}
 use Rattle.flow_record_text.proofs.records.read_named.Goals as goal
 
 pub reading-init : goal.reading-init
@@ -54,3 +55,13 @@ reading-preserved g c =
           (fields_of c.read_row.new.row) kept.takes.config (g.R.Read.remaining c.args.reader) c.saturating_add-number.result c.in-Ok.input (text_in c.in-Ok.text) (posted_values c.post.new.posted.items)
           kept.so_far read c.in-Ok.ensures c.in_ok-post-in-Ok.ensures.values (search rules);
     }
+
+pub returns-in_err-found-clause-refused : goal.returns-in_err-found-clause-refused
+returns-in_err-found-clause-refused g c =
+    let p = err_from_is_err_and c.from_residual-in_err-found.result c.from_residual-in_err-found.ensures.1 in
+    rw (p.1, p.2) (unexplained (texts_of c.args.names.now) (g.R.Read.remaining c.args.reader) c.in_err-found.field-0.0 c.in_err-found.ensures.refused)
+
+pub returns-in_err-post-in-Ok-clause-refused : goal.returns-in_err-post-in-Ok-clause-refused
+returns-in_err-post-in-Ok-clause-refused g c =
+    let p = err_from_is_err_and c.from_residual-in_err-post-in-Ok.result c.from_residual-in_err-post-in-Ok.ensures.1 in
+    rw (p.1, p.2) (unexplained (texts_of c.args.names.now) (g.R.Read.remaining c.args.reader) c.in_err-post-in-Ok.field-0.0 (inl c.in_err-post-in-Ok.ensures.refused))
