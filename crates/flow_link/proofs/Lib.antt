@@ -1,3 +1,4 @@
+pub mod DownEachLink
 pub mod EachLinkOf
 pub mod EndingsNumbered
 pub mod FirstOfEachFault

@@ -4,6 +4,7 @@ pub mod Drafts
 pub mod Facts
 pub mod Fault
 pub mod FaultOrder
+pub mod Heights
 pub mod JournalGrows
 pub mod Kinds
 pub mod Layout

@@ -11,8 +11,9 @@ ghost use Rattle.std.specs.List.{list_any};
 ghost use Rattle.flow_lists.specs.Lists.{some, below};
 ghost use Rattle.flow_link.specs.FaultOrder.{first_at, name_faults, end_faults, option_faults, is_bad_block, fault_of_ways};
 
-use crate::cycle::{MOST_BLOCKS, has_cycle};
+use crate::cycle::has_cycle;
 use crate::draft::{BlockDef, Draft, LinkDef};
+use crate::heights::MOST_BLOCKS;
 use crate::layout::{NO_LINK, name_links, planned_links};
 use crate::options::{holds_no_group, max_fits, options_fit};
 use crate::plan::{Link, LinkSource, LinkTarget, Place, Plan, PlanFault, PortId};

@@ -1,23 +1,25 @@
 //! Whether messages could go round for ever: whether a walk over links leads from some block back to it.
 //!
-//! For one block after another a row says from which blocks a walk leads to it. Each round allows walks of one link
-//! more, and after as many rounds as there are blocks no longer walk is of interest.
+//! Where heights are found by which each link leads down, none does. Else for one block after another a row says from which
+//! blocks a walk leads to it. Each round allows walks of one link more, and after as many rounds as there are blocks no longer
+//! walk is of interest.
 ghost use Rattle.std.specs.Prelude.{◌≡◌, ◌<◌, ◌≤◌, ◌↔◌, ◌&&◌, ◌||◌, true, false, length, slice_index_or, EachIndex};
 ghost use Rattle.flow_lists.specs.Lists.{some, below};
 ghost use Rattle.flow_link.specs.Plan.{begins_at};
 ghost use Rattle.flow_link.specs.PlanFaults.{walks};
 ghost use Rattle.flow_link.specs.Rounds.{goes_on, sets_out};
 
+use crate::heights::{MOST_BLOCKS, has_descent};
 use crate::plan::{Link, LinkSource, LinkTarget};
-
-/// The most blocks that a network has.
-pub const MOST_BLOCKS: usize = 256;
 
 /// Whether a walk leads from one of the first so many blocks back to it.
 pub fn has_cycle(links: &[Link], count: usize) -> bool
     requires { count ≤ 256 }
     ensures { result ≡ some (λ block. walks links.now count count block block) (below count) }
 {
+    if has_descent(links, count) {
+        return false;
+    }
     let mut row = [false; MOST_BLOCKS];
     let mut next = [false; MOST_BLOCKS];
     for block in 0..count {

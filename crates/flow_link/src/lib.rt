@@ -14,6 +14,7 @@ mod builder;
 mod check;
 mod cycle;
 mod draft;
+mod heights;
 mod kinds;
 mod layout;
 mod options;

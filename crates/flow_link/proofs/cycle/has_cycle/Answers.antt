@@ -10,6 +10,11 @@ returns-then-leads_back c =
     sym (some_here_below (λ b. walks c.args.links.now c.args.count c.args.count b b) c.args.count c.loop-block.block (omega arith)
     (ap (λ n. walks c.args.links.now n n c.loop-block.block c.loop-block.block) (sym rounds) ∙ sym c.leads_back.ensures ∙ c.if-leads_back.true))
 
+pub returns-then-has_descent : goal.returns-then-has_descent
+returns-then-has_descent c =
+    sym (some_none_below (λ b. walks c.args.links.now c.args.count c.args.count b b) c.args.count
+    (λ block low. c.has_descent.ensures c.if-has_descent.true c.args.count block))
+
 pub returns : goal.returns
 returns c =
     sym (some_none_below (λ b. walks c.args.links.now c.args.count c.args.count b b) c.args.count (λ k low. c.loop-block.invariant.before k (omega arith)))
