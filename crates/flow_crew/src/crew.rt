@@ -1,5 +1,5 @@
 //! The workers of a round, joined by halves.
-ghost use Rattle.std.specs.Prelude.{◌≡◌, ◌≤◌, ◌<◌, [], Some};
+ghost use Rattle.std.specs.Prelude.{◌≡◌, ◌≤◌, ◌<◌, ◌+◌, [], Some};
 ghost use Rattle.std.specs.Thread.{IsSend, IsSync};
 ghost use Rattle.crossbeam_queue.specs.Passes.{view, IsPassOf};
 
@@ -27,6 +27,23 @@ pub(crate) struct Share {
     pub(crate) budget: u64,
 }
 
+impl Share {
+    /// The shares of the others of so many workers, and of so few of them, which get their part of the budget.
+    fn halves(self, few: usize, workers: usize) -> (Share, Share)
+        requires { 0 < workers }
+        ensures within { result.0.budget + result.1.budget ≡ self.budget }
+    {
+        let budget = (self.budget / workers as u64)
+            .saturating_mul(few as u64)
+            .min(self.budget);
+        let others = Share {
+            budget: self.budget - budget,
+            ..self
+        };
+        (others, Share { budget, ..self })
+    }
+}
+
 /// One worker: it takes tasks, turns them and puts them back, until none moves. Once its budget is used it does jobs of lanes alone, which
 /// are no events; it ends with the hours. Its pass comes back as it was.
 fn work<W: Runs, J: Round<W>, R: Wait + Clock, G: Gate>(
@@ -47,7 +64,8 @@ fn work<W: Runs, J: Round<W>, R: Wait + Clock, G: Gate>(
     ensures pass { ((view result.0).parts ≡ (view pass).parts) × ((view result.0).holds ≡ []) }
     ensures within { result.1.events ≤ share.budget }
 {
-    let Ok(held) = VecDeque::with_capacity(alloc, share.chunk) else {
+    let chunk = share.chunk;
+    let Ok(held) = VecDeque::with_capacity(alloc, chunk) else {
         bell.end();
         return (pass, Done::nothing().refused());
     };
@@ -61,23 +79,10 @@ fn work<W: Runs, J: Round<W>, R: Wait + Clock, G: Gate>(
             break;
         }
         lull.listen(bell);
-        let has_job = worker.take_some(queue, share.chunk);
-        let taken = worker.held.len();
-        let done = if has_job {
-            worker.turn_to_job(
-                rt,
-                alloc,
-                board,
-                queue,
-                bell,
-                hours,
-                share.budget - events,
-                gate,
-            )
-        } else {
-            worker.turn_all(rt, alloc, board, bell, hours, share.budget - events, gate)
-        };
-        worker.put_all(rt, queue, bell);
+        let budget = share.budget - events;
+        let (done, taken) = worker.turn_some(
+            rt, alloc, board, queue, bell, hours, chunk, budget, gate,
+        );
         events += done.events;
         hours.count(done.events);
         refused = done.refused;
@@ -133,17 +138,7 @@ pub(crate) fn crew<
     boards_are_shared::<W>();
     let low = workers / 2;
     let high = workers - low;
-    let low_budget = (share.budget / workers as u64)
-        .saturating_mul(low as u64)
-        .min(share.budget);
-    let lower = Share {
-        budget: low_budget,
-        ..share
-    };
-    let upper = Share {
-        budget: share.budget - low_budget,
-        ..share
-    };
+    let (upper, lower) = share.halves(low, workers);
     let other = queue.another::<Halves>(&mut pass);
     let front = move || -> (Ticket<W, J>, Done)
         requires { IsSend W.row × IsSync W.row × IsSend J.row × IsSync J.row × IsSync R.row × IsSync G.row × (J.board ≡ Some board.now) × IsPassOf queue.now pass
@@ -167,10 +162,5 @@ pub(crate) fn crew<
     };
     let ((mut pass, first), (other, second)) = join(rt, front, back);
     queue.absorb::<Halves>(&mut pass, other);
-    let done = Done {
-        events: first.events + second.events,
-        refused: first.refused || second.refused,
-        ..Done::nothing()
-    };
-    (pass, done)
+    (pass, first.and(second))
 }

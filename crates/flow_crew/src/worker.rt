@@ -66,6 +66,18 @@ impl Done {
             ..self
         }
     }
+
+    /// With what another worker did: the events of both, and whether memory was refused to one of them.
+    pub(crate) fn and(self, other: Done) -> Done
+        requires { self.events + other.events < 2 ^ 64 }
+        ensures events { result.events ≡ self.events + other.events }
+    {
+        Done {
+            events: self.events + other.events,
+            refused: self.refused || other.refused,
+            ..Done::nothing()
+        }
+    }
 }
 
 pub(crate) struct Worker<W: Runs, J: Round<W>> {
@@ -113,7 +125,7 @@ impl<W: Runs, J: Round<W>> Worker<W, J> {
     }
 
     /// Takes at most so many, up to the first lane to which a job has come. Whether the last is one.
-    pub(crate) fn take_some(&mut self, queue: &Queue<W, J>, count: usize) -> bool
+    fn take_some(&mut self, queue: &Queue<W, J>, count: usize) -> bool
         requires queue { IsPassOf queue.now self.old.pass }
         requires part { 0 < (view self.old.pass).parts }
         ensures queue { IsPassOf queue.now self.new.pass }
@@ -171,6 +183,37 @@ impl<W: Runs, J: Round<W>> Worker<W, J> {
         while self.put(rt, queue, bell) {}
     }
 
+    /// Takes at most so many tasks, turns them for at most so many events, and puts them back. What came of it, and how many tasks it took.
+    pub(crate) fn turn_some<R: Wait + Clock, G: Gate>(
+        &mut self,
+        rt: &R,
+        alloc: Global,
+        board: &Board<W>,
+        queue: &Queue<W, J>,
+        bell: &Bell,
+        hours: &Hours,
+        count: usize,
+        budget: u64,
+        gate: &G,
+    ) -> (Done, usize)
+        requires board { J.board ≡ Some board.now }
+        requires queue { IsPassOf queue.now self.old.pass }
+        requires part { 0 < (view self.old.pass).parts }
+        ensures queue { IsPassOf queue.now self.new.pass }
+        ensures part { (view self.new.pass).parts ≡ (view self.old.pass).parts }
+        ensures within { result.0.events ≤ budget }
+    {
+        let has_job = self.take_some(queue, count);
+        let taken = self.held.len();
+        let done = if has_job {
+            self.turn_to_job(rt, alloc, board, queue, bell, hours, budget, gate)
+        } else {
+            self.turn_all(rt, alloc, board, bell, hours, budget, gate)
+        };
+        self.put_all(rt, queue, bell);
+        (done, taken)
+    }
+
     /// Does the job that has come to the lane which is held last.
     fn do_job<G: Gate>(&mut self, alloc: Global, board: &Board<W>, gate: &G) -> Done
         requires board { J.board ≡ Some board.now }
@@ -191,7 +234,7 @@ impl<W: Runs, J: Round<W>> Worker<W, J> {
 
     /// Turns what it took before the last task, a lane to which a job has come, for some events while any moves; then it puts all that back,
     /// and does the job.
-    pub(crate) fn turn_to_job<R: Wait + Clock, G: Gate>(
+    fn turn_to_job<R: Wait + Clock, G: Gate>(
         &mut self,
         rt: &R,
         alloc: Global,
@@ -234,7 +277,7 @@ impl<W: Runs, J: Round<W>> Worker<W, J> {
 
     /// Turns each task that is held again and again, while any moves and the budget and the hours last, but not for long once a job has
     /// come to a lane among them.
-    pub(crate) fn turn_all<R: Clock, G: Gate>(
+    fn turn_all<R: Clock, G: Gate>(
         &mut self,
         rt: &R,
         alloc: Global,
