@@ -1,7 +1,7 @@
 /* Makes one call fail of the program before which it is loaded: with FAILS=growth:3 its third call of malloc or realloc answers that
- * memory is out; with read:3 or write:3 its third call of that name fails; with interrupt:3 its third read is interrupted, and with
- * short:3 its third write takes one byte. It says so on standard error, so that a run in which none failed can be told from one that goes
- * on without. What it says itself counts as no write. */
+ * memory is out, and with growths:3 the third and each after it; with read:3 or write:3 its third call of that name fails; with
+ * interrupt:3 its third read is interrupted, and with short:3 its third write takes one byte. It says so on standard error, so that a
+ * run in which none failed can be told from one that goes on without. What it says itself counts as no write. */
 
 #define _GNU_SOURCE
 #include <dlfcn.h>
@@ -33,8 +33,15 @@ static void *next(const char *name) {
 static int fails(const char *of, int error) {
     static const char told[] = "one call fails\n";
     size_t length = strlen(of);
-    if (strncmp(kind, of, length) != 0 || kind[length] != ':') return 0;
-    if (atomic_fetch_add(&calls, 1) + 1 != number) return 0;
+    if (strncmp(kind, of, length) != 0) return 0;
+    int and_after = strncmp(kind + length, "s:", 2) == 0;
+    if (!and_after && kind[length] != ':') return 0;
+    unsigned long call = atomic_fetch_add(&calls, 1) + 1;
+    if (and_after ? call < number : call != number) return 0;
+    if (call > number) {
+        errno = error;
+        return 1;
+    }
     ssize_t (*real)(int, const void *, size_t) = (ssize_t (*)(int, const void *, size_t))next("write");
     if (real(2, told, sizeof told - 1) < 0) abort();
     errno = error;

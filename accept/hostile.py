@@ -33,6 +33,11 @@ WAYS = {"refused: the network came back", "refused: its parts came back"}
 # The examples of whose bytes each is cut or changed: a small one with a join, and one with texts, steps and predicates.
 BROKEN = ("matches", "routes")
 
+# The table of the calls that may be refused memory, what the program says of each that is, and what it says where it gives up.
+TABLE = "crates/refusals/CALLS.md"
+AS_BEFORE = re.compile(r"(\S+): refused, as before")
+GIVES_UP = r"memory is refused again and again|out of memory|allocation failed"
+
 # A refusal of a text: its number and name, and where it is.
 REFUSAL = re.compile(r"flow_run: [1-9]\d?( [A-Z]\w+)( \d+ [A-Z]\w+)?( (top|(block|link|record) \d+))?\n")
 
@@ -101,18 +106,52 @@ def fail_all(part, copy):
         fail_flow(part, copy, words)
 
 
-def build_examples(part, copy, logs):
-    script = ". bin/program.sh; use_program examples examples; build_unproved"
+def build(part, copy, logs, crate):
+    script = f". bin/program.sh; use_program {crate} {crate}; build_unproved"
     ended = run(["sh", "-c", script, "bin/flow_run"], copy, SECONDS)
-    keep_log(logs, "examples", ended)
-    part.compare("build of examples", ("status", 0, ended.status))
+    keep_log(logs, crate, ended)
+    part.compare(f"build of {crate}", ("status", 0, ended.status))
     return ended.status == 0
+
+
+def calls_that_grow(copy):
+    """The calls that may be refused memory, by the last column of the table."""
+    with open(os.path.join(copy, TABLE)) as file:
+        rows = [line.split("|") for line in file if line.startswith("| `")]
+    shown = {row[-2].strip() for row in rows}
+    return {name.strip("`") for name in shown if name.startswith("`") and name.endswith("`")}
+
+
+def refuse_calls(part, copy, logs):
+    """The program that makes each call that takes memory. Where one growth is refused, it comes to its end; where all are from there on,
+    it may say that it gives up. In both ways each line that it prints says that a call was refused and that all is as before. In the
+    first the calls are those of the table."""
+    if not build(part, copy, logs, "refusals") or not build_failing(part, copy):
+        return
+    command, end = "out/refusals.unproved", "all calls are made\n"
+    part.compare(command, ("status, output", (0, end), ended_of(run(command, copy))))
+    for kind in ("growth", "growths"):
+        seen, wrong = set(), []
+        for number, ended in each_failing(copy, kind, command):
+            told = set(ended.out.removesuffix(end).splitlines())
+            seen |= told
+            good = ended.status == 0 and ended.out.endswith(end) and not ended.err
+            good = good or kind == "growths" and ended.status not in (0, None) and re.search(GIVES_UP, ended.err)
+            wrong += [] if good and all(AS_BEFORE.fullmatch(line) for line in told) else shown(number, ended)
+        part.count(not wrong, f"{command}, {kind}", wrong)
+        names = sorted(AS_BEFORE.fullmatch(line).group(1) for line in seen if AS_BEFORE.fullmatch(line))
+        if kind == "growth":
+            part.compare(TABLE, ("calls", sorted(calls_that_grow(copy)), names))
+
+
+def ended_of(ended):
+    return ended.status, ended.out
 
 
 def go_on(part, copy, logs):
     """The example whose crew goes on from what comes back. Until its network is made it may end for want of memory, and prints nothing.
     From then on it comes to its end, and each way of coming back is seen."""
-    if not build_examples(part, copy, logs) or not build_failing(part, copy):
+    if not build(part, copy, logs, "examples") or not build_failing(part, copy):
         return
     command = "out/examples.unproved memory"
     wanted, seen, wrong = run(command, copy).out.splitlines(), set(), []

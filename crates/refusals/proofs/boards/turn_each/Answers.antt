@@ -1,0 +1,25 @@
+use Rattle.std.proofs.Common.{rules, ◌<◌, length}
+use Rattle.refusals.proofs.TasksOf.{task_of, tasks_turned}
+use Rattle.refusals.proofs.boards.turn_each.Goals as goal
+
+pub turn-requires : goal.turn-requires
+turn-requires g c =
+    let tasks = c.loop-place.tasks.items in
+    let low : c.loop-place.place < length tasks = search rules in
+    record { of = task_of c.args.board.now tasks c.loop-place.place c.index_mut.result.now c.loop-place.invariant low c.index_mut.ensures.value }
+
+pub returns-in_err-turned : goal.returns-in_err-turned
+returns-in_err-turned g c =
+    let tasks = c.loop-place.tasks.items in
+    let low : c.loop-place.place < length tasks = search rules in
+    record {
+      of = tasks_turned c.args.board.now tasks c.loop-place.place c.index_mut.result.now c.turn.new.task c.loop-place.invariant low
+          c.index_mut.ensures.value c.turn.ensures.of;
+    }
+
+pub loop-place-preserved : goal.loop-place-preserved
+loop-place-preserved g c =
+    let tasks = c.loop-place.tasks.items in
+    let low : c.loop-place.place < length tasks = search rules in
+    tasks_turned c.args.board.now tasks c.loop-place.place c.index_mut.result.now c.turn.new.task c.loop-place.invariant low
+    c.index_mut.ensures.value c.turn.ensures.of
