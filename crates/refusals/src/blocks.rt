@@ -215,12 +215,23 @@ fn new_execution<K: WorkKind>(
     again!(rt, middle.call, TypedExecution::new(alloc, &plan, MIDDLE), only _ => true)
 }
 
+/// How many messages wait in the block, and how many results it has to give or keeps.
+fn counts<K: WorkKind>(block: &TypedExecution<K, Steps>) -> (usize, usize, usize) {
+    let execution = block.execution();
+    let waiting = match execution.block().ports().first() {
+        Some(port) => port.waiting().len(),
+        None => 0,
+    };
+    (waiting, execution.left().len(), execution.recorded().len())
+}
+
 fn begin<K: WorkKind>(
     rt: &impl Print,
     alloc: Global,
     block: &mut TypedExecution<K, Steps>,
 ) -> Result<Option<Job<Steps>>, Stop> {
-    again!(rt, "begin", block.begin(alloc), only _ => true)
+    let before = counts(block);
+    again!(rt, "begin", block.begin(alloc), only _ => counts(block) == before)
 }
 
 fn run(rt: &impl Print, alloc: Global, job: Job<Steps>) -> Result<JobResult<Steps>, Stop> {
@@ -232,7 +243,9 @@ fn end<K: WorkKind>(
     block: &mut TypedExecution<K, Steps>,
     done: JobResult<Steps>,
 ) -> Result<(), Stop> {
-    again!(rt, "end", block.end(done), (done, EndFault::Memory) => done.job().ticket() == 0)
+    let before = counts(block);
+    again!(rt, "end", block.end(done), (done, EndFault::Memory) =>
+        done.job().ticket() == 0 && counts(block) == before)
 }
 
 /// A block with a function takes messages, and works on the first.

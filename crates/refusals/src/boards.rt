@@ -37,6 +37,11 @@ pub(crate) fn scattered(
     Ok(parts)
 }
 
+/// How many tasks, entries and exits there are.
+fn counts(parts: &Parts<Steps>) -> (usize, usize, usize) {
+    (parts.tasks.len(), parts.entries.len(), parts.exits.len())
+}
+
 /// The network of these parts.
 pub(crate) fn gathered(
     rt: &impl Print,
@@ -47,8 +52,8 @@ pub(crate) fn gathered(
     requires entries_of { AllEntriesOf parts.board parts.entries.items }
     requires exits_of { AllExitsOf parts.board parts.exits.items }
 {
-    let count = parts.tasks.len();
-    again!(rt, "gather", gather(alloc, parts), (parts, GatherFault::Memory) => parts.tasks.len() == count)
+    let before = counts(&parts);
+    again!(rt, "gather", gather(alloc, parts), (parts, GatherFault::Memory) => counts(&parts) == before)
 }
 
 /// Turns the task once, with one event, and tells how that was.
@@ -138,6 +143,15 @@ pub(crate) fn turns(rt: &impl Print, alloc: Global) -> Result<(), Stop> {
     Ok(())
 }
 
+/// How many marks the journals of the tasks have, together.
+fn marks_of(tasks: &[Task<Steps>]) -> usize {
+    let mut count = 0usize;
+    for task in tasks {
+        count = count.saturating_add(task.journal().len());
+    }
+    count
+}
+
 /// Two workers turn the tasks, by at most so many events as a round has here; and how many they did.
 fn round<R: Print + Threads + Wait + Clock + Sync>(
     rt: &R,
@@ -148,9 +162,9 @@ fn round<R: Print + Threads + Wait + Clock + Sync>(
     requires of { AllTasksOf board.now tasks.items }
     ensures of { IfOk result (λ done. AllTasksOf board.now done.0.items) }
 {
-    let count = tasks.len();
+    let (count, marks) = (tasks.len(), marks_of(&tasks));
     again!(rt, "turn_round", turn_round(rt, alloc, board, tasks, 2, &OpenGate, 20), only (tasks, _) =>
-        tasks.len() == count)
+        tasks.len() == count && marks_of(&tasks) >= marks)
 }
 
 /// Two workers turn the tasks in rounds, until a round does nothing.

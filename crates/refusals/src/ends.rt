@@ -25,8 +25,9 @@ fn post(
     ensures of { entry_board entry.new ≡ entry_board entry.old }
 {
     let value = Value::Int(number);
+    let told = entry.accepted().len();
     again!(rt, "Entry::begin_post", entry.begin_post(alloc, board, value), (value, SendFault::Memory) =>
-        is_number(&value, number))
+        is_number(&value, number) && entry.accepted().len() == told)
 }
 
 fn send(
@@ -40,8 +41,9 @@ fn send(
     ensures of { entry_board entry.new ≡ entry_board entry.old }
 {
     let value = Value::Int(number);
+    let told = entry.accepted().len();
     again!(rt, "Entry::begin_send", entry.begin_send(alloc, board, value), (value, SendFault::Memory) =>
-        is_number(&value, number))
+        is_number(&value, number) && entry.accepted().len() == told)
 }
 
 /// The first entry begins a number.

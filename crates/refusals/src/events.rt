@@ -2,10 +2,24 @@
 use crate::again::{Stop, check, refused, wrong};
 use crate::networks::{Example, fresh, is_reported, marks};
 use flow_exec::{Job, JobResult};
-use flow_link::{LinkEnd, LinkId, Move};
+use flow_link::{LinkEnd, LinkId, Move, Phase};
 use flow_net::{Event, Net, NetFault, Settled, Stepped};
 use flow_value::{MessageHeader, Steps};
 use std::alloc::Global;
+
+/// The phase of the link over which the event is, if it is over one.
+fn phase_over(net: &Net<Steps>, event: &Event<Steps>) -> Option<Phase> {
+    match event {
+        Event::Link(link, _) if *link < net.plan().link_count() => Some(net.phase(*link)),
+        Event::Link(..)
+        | Event::Make(_)
+        | Event::Begin(_)
+        | Event::End(..)
+        | Event::Complete(..)
+        | Event::Fault(_)
+        | Event::Done(_) => None,
+    }
+}
 
 /// Does the event, if it may happen, and tells what came of it.
 fn act(
@@ -14,13 +28,14 @@ fn act(
     net: &mut Net<Steps>,
     event: Event<Steps>,
 ) -> Result<Option<Stepped<Steps>>, Stop> {
-    let before = marks(net);
+    let before = (marks(net), phase_over(net, &event));
     match net.event(alloc, event) {
         Ok(stepped) => Ok(Some(stepped)),
         Err((_, NetFault::NotEnabled)) => Ok(None),
         Err((_, NetFault::Ids)) => Err(wrong(rt, "Net::event")),
         Err((event, NetFault::Memory)) => {
-            refused(rt, "Net::event", marks(net) == before);
+            let now = (marks(net), phase_over(net, &event));
+            refused(rt, "Net::event", now == before);
             act_again(alloc, net, event)
         }
     }

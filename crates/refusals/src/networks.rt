@@ -9,6 +9,9 @@ use std::alloc::{AllocFailed, Global};
 use std::sync::Wait;
 use std::thread::Threads;
 
+/// What a writer has before a report is written there.
+const FIRST: u8 = b'\n';
+
 /// More events than any network here has.
 pub(crate) const ENOUGH: u64 = 10_000;
 
@@ -171,12 +174,16 @@ fn report(
     net: &Net<Steps>,
     settled: Settled,
 ) -> Result<Vec<u8>, Stop> {
-    let mut report = Vec::new(alloc);
+    let mut report = vec![in alloc; FIRST]?;
     match write_report(alloc, net, settled, &mut report) {
         Ok(()) => Ok(report),
         Err(why) => {
             let is_write = matches!(why, TextRefusal::Fault(TextFault::Write));
-            refused(rt, "write_report", is_write);
+            refused(
+                rt,
+                "write_report",
+                is_write && report.as_slice().starts_with(&[FIRST]),
+            );
             write_again(alloc, net, settled)
         }
     }

@@ -63,8 +63,9 @@ fn begin(
     may_postpone: bool,
 ) -> Result<(), Stop> {
     let value = Value::Int(number);
+    let told = port.accepted().len();
     again!(rt, "SendPort::begin", port.begin(alloc, value, may_postpone), (value, SendFault::Memory) =>
-        is_number(&value, number))
+        is_number(&value, number) && port.accepted().len() == told)
 }
 
 /// A number is begun.
@@ -165,17 +166,19 @@ fn accepted(
     alloc: Global,
     future: &'static str,
     port: NetEntry<Steps>,
+    number: i64,
     answer: Result<Delivery, SendRefusal>,
 ) -> Result<Net<Steps>, Stop> {
     match answer {
         Ok(Delivery::Accepted) => Ok(port.into_net()),
         Ok(Delivery::Declined(_) | Delivery::Permanently(_)) => Err(wrong(rt, future)),
         Err(SendRefusal::NotBegun(value, fault)) => {
-            refused(rt, future, fault == SendFault::Memory);
+            let is_back = fault == SendFault::Memory && is_number(&value, number);
+            refused(rt, future, is_back && port.accepted().is_empty());
             begun_again(rt, alloc, port, value)
         }
         Err(SendRefusal::Memory) => {
-            refused(rt, future, true);
+            refused(rt, future, port.accepted().is_empty());
             told(rt, alloc, port)
         }
     }
@@ -203,7 +206,7 @@ fn posted<R: Print + RandomSource + AllocGlobal>(
 ) -> Result<Net<Steps>, Stop> {
     let port = entry(rt, net)?;
     let (port, answer) = ready(rt, Post::new(alloc, port, Value::Int(number)))?;
-    accepted(rt, alloc, "Post", port, answer)
+    accepted(rt, alloc, "Post", port, number, answer)
 }
 
 /// A number is sent.
@@ -215,7 +218,7 @@ fn sent<R: Print + RandomSource + AllocGlobal>(
 ) -> Result<Net<Steps>, Stop> {
     let port = entry(rt, net)?;
     let (port, answer) = ready(rt, SendAsync::new(alloc, port, Value::Int(number)))?;
-    accepted(rt, alloc, "SendAsync", port, answer)
+    accepted(rt, alloc, "SendAsync", port, number, answer)
 }
 
 /// Waits for a message, which is there.
@@ -228,7 +231,7 @@ fn awaited<R: Print + RandomSource + AllocGlobal>(
     let (port, there) = ready(rt, OutputAvailable::new(alloc, port))?;
     match there {
         Ok(is_there) => check(rt, "OutputAvailable", is_there),
-        Err(AllocError) => refused(rt, "OutputAvailable", true),
+        Err(AllocError) => refused(rt, "OutputAvailable", port.received().is_empty()),
     }
     Ok(port)
 }
@@ -247,7 +250,7 @@ fn comes<R: Print + RandomSource + AllocGlobal>(
             Ok(())
         }
         Err(AllocError) => {
-            refused(rt, "Receive", true);
+            refused(rt, "Receive", port.received().is_empty());
             comes_again(rt, alloc, port, number)
         }
     }
