@@ -139,9 +139,12 @@ def refuse_calls(part, copy, logs):
             good = good or kind == "growths" and ended.status not in (0, None) and re.search(GIVES_UP, ended.err)
             wrong += [] if good and all(AS_BEFORE.fullmatch(line) for line in told) else shown(number, ended)
         part.count(not wrong, f"{command}, {kind}", wrong)
-        names = sorted(AS_BEFORE.fullmatch(line).group(1) for line in seen if AS_BEFORE.fullmatch(line))
+        names = {AS_BEFORE.fullmatch(line).group(1) for line in seen if AS_BEFORE.fullmatch(line)}
         if kind == "growth":
-            part.compare(TABLE, ("calls", sorted(calls_that_grow(copy)), names))
+            listed = calls_that_grow(copy)
+            differ = [f"never refused: {name}" for name in sorted(listed - names)]
+            differ += [f"refused, and not listed: {name}" for name in sorted(names - listed)]
+            part.count(not differ, TABLE, differ)
 
 
 def ended_of(ended):
