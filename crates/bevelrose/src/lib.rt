@@ -19,7 +19,7 @@
 //! values                 Value, Text, Row
 //! functions              Steps, When; a Work of one's own
 //! what is posted         Inputs
-//! a run                  Net::settle; run_paced, run_workers
+//! a run                  Net::settle; run_paced, run_workers; run_open
 //! calls in mid-run       NetEntry, NetExit
 //! what came of it        record_of, state_of, Net, write_report; shown
 #![tactic(auto)]
@@ -31,6 +31,7 @@ pub use flow_link::{
     BlockDef, BlockKind, Draft, DraftRefused, Ending, LinkDef, Plan, PlanFault, PlanRefusal,
 };
 pub use flow_net::{Net, NetEntry, NetExit, NetFault, Settled, State};
+pub use flow_open::{Ended, OpenFault, Opened, Sender, SenderState, run_open};
 pub use flow_pace::{Start, run_paced};
 pub use flow_poll::{
     Post, Receipt, Receive, ReceivePort, Received, SendAsync, SendFault, SendPort, Sent,

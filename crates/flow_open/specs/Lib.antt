@@ -1,0 +1,5 @@
+pub mod Opened
+pub mod Pairs
+pub mod Senders
+pub mod Sends
+pub mod Takes
