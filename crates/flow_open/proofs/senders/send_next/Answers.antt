@@ -17,4 +17,4 @@ returns-in-Err-clause-sends g c =
 pub returns-in-Ok-finish-clause-sends : goal.returns-in-Ok-finish-clause-sends
 returns-in-Ok-finish-clause-sends g c =
     sends_end g.S.Iterator.next_gives _ _ _ _ c.requires.sending refl c.in-None.ensures.steps c.requires.idle c.finish.ensures.same
-    c.finish.ensures.finished c.finish.ensures.again
+    c.in-Ok-finish.ensures.finished c.in-Ok-finish.ensures.again
