@@ -174,7 +174,8 @@ fn run_parts<
     ensures entries_are { map entry_number entries.new.items ≡ map entry_number entries.old.items }
     ensures exits_are { map exit_number exits.new.items ≡ map exit_number exits.old.items }
     ensures sends { EachSends S.next_gives entries.old.items senders.old.items entries.new.items senders.new.items }
-    ensures takes { EachTakes (λ state value next. F.step state value tt next) exits.old.items receivers.old.items exits.new.items receivers.new.items }
+    ensures takes { EachTakes (λ state value next. F.step state value tt next) exits.old.items receivers.old.items exits.new.items
+        receivers.new.items }
     ensures unmatched { result ≡ Unmatched → (entries.new.items ≡ entries.old.items) × (senders.new.items ≡ senders.old.items)
         × (exits.new.items ≡ exits.old.items) × (receivers.new.items ≡ receivers.old.items) }
 {
@@ -226,7 +227,8 @@ fn call_all<
     ensures entries_are { map entry_number entries.new.items ≡ map entry_number entries.old.items }
     ensures exits_are { map exit_number exits.new.items ≡ map exit_number exits.old.items }
     ensures sends { EachSends S.next_gives entries.old.items senders.old.items entries.new.items senders.new.items }
-    ensures takes { EachTakes (λ state value next. F.step state value tt next) exits.old.items receivers.old.items exits.new.items receivers.new.items }
+    ensures takes { EachTakes (λ state value next. F.step state value tt next) exits.old.items receivers.old.items exits.new.items
+        receivers.new.items }
 {
     exits_cross::<W>();
     boards_are_shared::<W>();

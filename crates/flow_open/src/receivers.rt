@@ -25,7 +25,8 @@ pub(crate) fn receive_all<W: Runs, F: FnMut(Value), R: Wait + Clock>(
     requires can { (state : F) (value : Value) → F.pre state value }
     ensures of { AllExitsOf board.now exits.new.items }
     ensures numbers { map exit_number exits.new.items ≡ map exit_number exits.old.items }
-    ensures takes { EachTakes (λ state value next. F.step state value tt next) exits.old.items receivers.old.items exits.new.items receivers.new.items }
+    ensures takes { EachTakes (λ state value next. F.step state value tt next) exits.old.items receivers.old.items exits.new.items
+        receivers.new.items }
 {
     let mut tries = 0;
     for _ in rt.forever() {
@@ -55,7 +56,8 @@ fn receive_round<W: Runs, F: FnMut(Value)>(
     requires can { (state : F) (value : Value) → F.pre state value }
     ensures of { AllExitsOf board.now exits.new.items }
     ensures numbers { map exit_number exits.new.items ≡ map exit_number exits.old.items }
-    ensures takes { EachTakes (λ state value next. F.step state value tt next) exits.old.items receivers.old.items exits.new.items receivers.new.items }
+    ensures takes { EachTakes (λ state value next. F.step state value tt next) exits.old.items receivers.old.items exits.new.items
+        receivers.new.items }
 {
     let mut moved = false;
     for place in 0..exits.len().min(receivers.len()) {
@@ -77,7 +79,8 @@ fn receive<W: Runs, F: FnMut(Value)>(
     requires can { (state : F) (value : Value) → F.pre state value }
     ensures of { exit_board exit.new ≡ exit_board exit.old }
     ensures number { exit_number exit.new ≡ exit_number exit.old }
-    ensures takes { Takes (λ state value next. F.step state value tt next) (exit_state exit.old).received take.old (exit_state exit.new).received take.new }
+    ensures takes { Takes (λ state value next. F.step state value tt next) (exit_state exit.old).received take.old
+        (exit_state exit.new).received take.new }
 {
     match exit.try_receive(alloc, board) {
         Ok(Received::Message(value)) => {
