@@ -6,7 +6,7 @@ use Rattle.flow_open.proofs.Opening.{extends_over, left_back, scatters}
 use Rattle.flow_open.proofs.open.run_open.Goals as goal
 
 pub run_and_gather-requires-clause-whole : goal.run_and_gather-requires-clause-whole
-run_and_gather-requires-clause-whole g c =
+run_and_gather-requires-clause-whole g c κs within =
     let scattered = c.in-Ok.ensures in
     record { tasks = scattered.tasks_of; entries = scattered.entries_of; exits = scattered.exits_of; there = scattered.there }
 
