@@ -68,4 +68,4 @@ module _ {W : Type 0} {w : _} {e : _} {S F : Type 0} (meaning : W → Value → 
   pub left_back : (old : Net W w e) (before : Parts W w e) (senders : List (Sender S)) (receivers : List F) (found : OpenFault W S F w e)
       → IsScattered old before → IsLeftOf gives takes before senders receivers found → IsBack meaning gives takes old senders receivers found
   left_back old before senders receivers (fault.Net net senders_then receivers_then) scattered left = absurd left
-  left_back old before senders receivers (fault.Parts parts senders_then receivers_then) scattered left = (before, scattered, left)
+  left_back old before senders receivers (fault.Parts parts senders_then receivers_then) scattered left = (before, (scattered, left))

@@ -1,5 +1,5 @@
 -- What a network is after it was run open, with its senders and receivers, and what comes back where memory is out.
-use Rattle.std.specs.Prelude.{◌≡◌, All, List, Option, Result, map}
+use Rattle.std.specs.Prelude.{◌≡◌, ◌≢◌, ◌↔◌, All, List, Option, Result, length, map}
 use Rattle.flow_value.specs.declared.value.Value.{Value}
 use Rattle.flow_value.specs.declared.work.WorkFault.{WorkFault}
 use Rattle.flow_lawful.specs.Lawful.{Lawful}
@@ -40,8 +40,14 @@ module _ {W : Type 0} {w : _} {e : _} where
     pub untouched : AllUntouched parts.board parts.entries.items
     pub received : map exit_state parts.exits.items ≡ (begun_in parts.board).exits
 
+module _ {W : Type 0} {w : _} {e : _} {S F : Type 0} where
+  -- as many senders as entries, and as many receivers as exits
+  abbrev pub AreMatched : List (Entry W w e) → List (Sender S) → List (Exit W w e) → List F → Type 0
+  AreMatched entries senders exits receivers = (length senders ≡ length entries) × (length receivers ≡ length exits)
+
 module _ {W : Type 0} {w : _} {e : _} {S F : Type 0} (gives : S → Option Value → S → Type 0) (takes : F → Value → F → Type 0) where
-  -- parts were run: they are there yet, senders have sent at their entries, and receivers were given what came at their exits
+  -- parts were run: they are there yet, senders have sent at their entries, and receivers were given what came at their exits; where
+  -- these were not as many, nothing was sent or received
   pub record HaveRun (before : Parts W w e) (senders : List (Sender S)) (receivers : List F)
       (after : Parts W w e) (senders_then : List (Sender S)) (receivers_then : List F) : Type 0 where
     pub board : after.board ≡ before.board
@@ -52,6 +58,9 @@ module _ {W : Type 0} {w : _} {e : _} {S F : Type 0} (gives : S → Option Value
     pub exits_are : map exit_number after.exits.items ≡ map exit_number before.exits.items
     pub sends : EachSends gives before.entries.items senders after.entries.items senders_then
     pub takes_in : EachTakes takes before.exits.items receivers after.exits.items receivers_then
+    pub unmatched : (AreMatched before.entries.items senders before.exits.items receivers → ⊥)
+        → (after.entries.items ≡ before.entries.items) × (senders_then ≡ senders)
+        × (after.exits.items ≡ before.exits.items) × (receivers_then ≡ receivers)
 
   -- parts were run, and come back in the order of their numbers
   pub record AreLeft (before : Parts W w e) (senders : List (Sender S)) (receivers : List F)
@@ -80,13 +89,12 @@ module _ {W : Type 0} {w : _} {e : _} (meaning : W → Value → Result (List Va
 
 module _ {W : Type 0} {w : _} {e : _} {S F : Type 0} (meaning : W → Value → Result (List Value) WorkFault) (gives : S → Option Value → S → Type 0)
     (takes : F → Value → F → Type 0) where
-  -- parts were run and gathered; where senders and receivers were not as many as entries and exits, nothing was sent or received
+  -- parts were run and gathered, and it is told where senders and receivers were not as many as entries and exits
   pub record IsRunOf (before : Parts W w e) (senders : List (Sender S)) (receivers : List F) (opened : Opened W S F w e) : Type 0 where
     pub after : Parts W w e
     pub ran : HaveRun gives takes before senders receivers after opened.senders.items opened.receivers.items
     pub gathered : IsGathered meaning before.board after.entries.items after.exits.items opened.net
-    pub unmatched : opened.ended ≡ Unmatched → (after.entries.items ≡ before.entries.items) × (opened.senders.items ≡ senders)
-        × (after.exits.items ≡ before.exits.items) × (opened.receivers.items ≡ receivers)
+    pub matched : (opened.ended ≢ Unmatched) ↔ AreMatched before.entries.items senders before.exits.items receivers
 
   -- the same of a network, which was scattered before
   pub record IsOpened (net : Net W w e) (senders : List (Sender S)) (receivers : List F) (opened : Opened W S F w e) : Type 0 where

@@ -1,12 +1,12 @@
 //! A network is scattered, run open, and gathered.
-ghost use Rattle.std.specs.Prelude.{◌≡◌, ◌<◌, ◌≤◌, IfErr, IfOk, map};
+ghost use Rattle.std.specs.Prelude.{◌≡◌, ◌≢◌, ◌↔◌, ◌<◌, ◌≤◌, IfErr, IfOk, map};
 ghost use Rattle.flow_value.specs.declared.value.Value.{Value};
 ghost use Rattle.flow_lawful.specs.Lawful.{Lawful};
 ghost use Rattle.flow_net.specs.Net.{layout_in, parts_of, run_of};
 ghost use Rattle.flow_board.specs.Begun.{JournalsExtend};
 ghost use Rattle.flow_board.specs.Parts.{AllEntriesOf, AllExitsOf, AllTasksOf, entry_number, exit_number};
 ghost use Rattle.flow_crew.specs.Rounds.{ComeBack};
-ghost use Rattle.flow_open.specs.Opened.{AreWhole, IsBack, IsLeftOf, IsOpened, IsRunOf};
+ghost use Rattle.flow_open.specs.Opened.{AreMatched, AreWhole, IsBack, IsLeftOf, IsOpened, IsRunOf};
 ghost use Rattle.flow_open.specs.Sends.{EachSends};
 ghost use Rattle.flow_open.specs.Takes.{EachTakes};
 ghost use Rattle.flow_open.specs.declared.fault.Ended.TheVariants.{Unmatched};
@@ -147,14 +147,15 @@ fn run_and_gather<
 
 /// Has so many threads turn the tasks, one send, and one receive, if there are as many senders as entries, and receivers as exits.
 fn run_parts<
+    'a,
     W: Runs + Send + Sync,
     S: Iterator<Item = Value>,
     F: FnMut(Value) + Send + Drop,
     R: Threads + Wait + Clock + Sync,
 >(
-    rt: &R,
+    rt: &'a R,
     alloc: Global,
-    board: &Board<W>,
+    board: &'a Board<W>,
     tasks: &mut Vec<Task<W>>,
     workers: usize,
     entries: &mut Vec<Entry<W>>,
@@ -176,7 +177,9 @@ fn run_parts<
     ensures sends { EachSends S.next_gives entries.old.items senders.old.items entries.new.items senders.new.items }
     ensures takes { EachTakes (λ state value next. F.step state value tt next) exits.old.items receivers.old.items exits.new.items
         receivers.new.items }
-    ensures unmatched { result ≡ Unmatched → (entries.new.items ≡ entries.old.items) × (senders.new.items ≡ senders.old.items)
+    ensures matched { (result ≢ Unmatched) ↔ AreMatched entries.old.items senders.old.items exits.old.items receivers.old.items }
+    ensures unmatched { (AreMatched entries.old.items senders.old.items exits.old.items receivers.old.items → ⊥)
+        → (entries.new.items ≡ entries.old.items) × (senders.new.items ≡ senders.old.items)
         × (exits.new.items ≡ exits.old.items) × (receivers.new.items ≡ receivers.old.items) }
 {
     let are_matched = entries.len() == senders.len() && exits.len() == receivers.len();
@@ -204,19 +207,20 @@ fn run_parts<
 
 /// Receives in a thread, and sends in this one.
 fn call_all<
+    'a,
     W: Runs + Send + Sync,
     S: Iterator<Item = Value>,
     F: FnMut(Value) + Send + Drop,
     R: Threads + Wait + Clock + Sync,
 >(
-    rt: &R,
+    rt: &'a R,
     alloc: Global,
-    board: &Board<W>,
+    board: &'a Board<W>,
     entries: &mut Vec<Entry<W>>,
     senders: &mut Vec<Sender<S>>,
     exits: &mut Vec<Exit<W>>,
     receivers: &mut Vec<F>,
-    calm: &Calm,
+    calm: &'a Calm,
 )
     requires can_next { (state : S) → S.can_next state }
     requires can_take { (state : F) (value : Value) → F.pre state value }

@@ -18,6 +18,7 @@ returns-in-Ok-clause-ran g c =
         exits_are = ran.exits_are;
         sends = ran.sends;
         takes_in = ran.takes;
+        unmatched = ran.unmatched;
       };
       gathered = record {
         same_layout = gathered.same_layout;
@@ -27,7 +28,7 @@ returns-in-Ok-clause-ran g c =
         sent = gathered.entries;
         given = gathered.exits;
       };
-      unmatched = ran.unmatched;
+      matched = ran.matched;
     }
 
 pub unreachable-requires : goal.unreachable-requires
@@ -54,6 +55,7 @@ returns-in-Memory-clause-left g c =
         exits_are = ran.exits_are;
         sends = ran.sends;
         takes_in = ran.takes;
+        unmatched = ran.unmatched;
       };
       back = refused.back;
       whole = record {

@@ -62,7 +62,5 @@ returns-in-Err-clause-back g c =
         journals = refused.extends_back;
         callers = back_callers (layout_in c.args.net) g.W.Runs.meaning (parts_of c.args.net) (parts_of c.in-Err.net) refused.come_back;
       },
-      refused.lawful,
-      refl,
-      refl,
+      (refused.lawful, (refl, refl)),
     )

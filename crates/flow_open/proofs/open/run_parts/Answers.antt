@@ -1,4 +1,3 @@
-use Rattle.std.proofs.Common.{refl}
 use Rattle.flow_crew.proofs.ComesBack.{back_at_once}
 use Rattle.flow_open.proofs.Each.{each_sends_none, each_takes_none}
 use Rattle.flow_open.proofs.open.run_parts.Goals as goal
@@ -11,6 +10,3 @@ returns-then-not-are_matched-clause-sends g c = each_sends_none _ _ _
 
 pub returns-then-not-are_matched-clause-takes : goal.returns-then-not-are_matched-clause-takes
 returns-then-not-are_matched-clause-takes g c = each_takes_none _ _ _
-
-pub returns-then-not-are_matched-clause-unmatched : goal.returns-then-not-are_matched-clause-unmatched
-returns-then-not-are_matched-clause-unmatched g c = λ is. (refl, refl, refl, refl)
