@@ -1,0 +1,2 @@
+pub mod RecordsGrow
+pub mod RowsHave

@@ -1,0 +1,3 @@
+pub mod RawRows
+pub mod Sends
+pub mod Stands
