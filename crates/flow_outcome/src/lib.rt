@@ -22,6 +22,6 @@ pub use fit::{Misfit, check_fit};
 pub use kind::Kind;
 pub use merge::{MergeFault, merge_reports, report_status, worst_status};
 pub use outline::{BlockOutline, LinkOutline, Outline, given_over};
-pub use results::{ResultsError, ResultsForm, write_results};
+pub use results::{ActionResults, ResultsError, ResultsForm, results_by_action, write_results};
 pub use trace::write_trace;
 pub use verdict::write_verdict;

@@ -1,7 +1,7 @@
 //! Results in each form.
 use crate::check::check;
 use crate::reports::IMPORT;
-use flow_outcome::{ResultsForm, write_results};
+use flow_outcome::{ResultsForm, results_by_action, write_results};
 use std::alloc::Global;
 use std::test::Fail;
 
@@ -31,6 +31,19 @@ a,\"
 a,1,x,\"[2,\"\"\\u007f\"\"]\"
 a
 c,9223372036854775807
+";
+
+const NAMED_CSV: &str = "block,value1,value2,value3
+a,-9223372036854775808,,
+a,,,
+a,\"a,b\",,
+a,\"\"\"q\"\"\",,
+a,\\x41,,
+a,\"
+\u{1f}\",,
+a,1,x,\"[2,\"\"\\u007f\"\"]\"
+a,,,
+c,9223372036854775807,,
 ";
 
 const JSON_LINES: &str = r#"{"block":"a","value":-9223372036854775808}
@@ -65,9 +78,10 @@ fn results(
 }
 
 #[test]
-fn results_come_in_three_forms(rt: HostRuntime) -> Result<(), Fail> {
+fn results_come_in_four_forms(rt: HostRuntime) -> Result<(), Fail> {
     for (form, due) in [
         (ResultsForm::Csv, CSV),
+        (ResultsForm::NamedCsv, NAMED_CSV),
         (ResultsForm::JsonLines, JSON_LINES),
         (ResultsForm::Json, JSON),
     ] {
@@ -100,6 +114,58 @@ fn results_of_blocks_by_name(rt: HostRuntime) -> Result<(), Fail> {
             ResultsForm::JsonLines,
         )?;
         check(&rt, name, text.as_str() == due);
+    }
+    Ok(())
+}
+
+/// Of each action its name, and what is written of it alone with names of columns.
+const BY_ACTION: &[(&str, &str)] = &[
+    (
+        "a",
+        "block,value1,value2,value3\na,-9223372036854775808,,\n",
+    ),
+    ("c", "block,value\nc,9223372036854775807\n"),
+];
+
+#[test]
+fn results_of_each_action(rt: HostRuntime) -> Result<(), Fail> {
+    let form = ResultsForm::NamedCsv;
+    let all_of_them: &[&str] = &[];
+    let both: &[&str] = &["c", "a"];
+    for names in [all_of_them, both] {
+        let Ok(all) = results_by_action(rt.alloc(), VALUES.as_bytes(), names, form) else {
+            return Err(Fail::new("no results"));
+        };
+        check(&rt, "two actions", all.len() == 2);
+        for ((name, front), action) in BY_ACTION.iter().zip(&all) {
+            let is_due = action.name == *name && action.text.starts_with(front.as_bytes());
+            check(&rt, name, is_due);
+        }
+    }
+    Ok(())
+}
+
+/// An action by its name, a block that is none, and a report without an action.
+#[test]
+fn results_by_action_are_those_of_its_name(rt: HostRuntime) -> Result<(), Fail> {
+    let form = ResultsForm::Csv;
+    let Ok(all) = results_by_action(rt.alloc(), VALUES.as_bytes(), &["c"], form) else {
+        return Err(Fail::new("no results"));
+    };
+    match all.as_slice() {
+        [action] => {
+            let text = str::from_utf8(action.text.as_slice())?;
+            check(&rt, "c alone", text == "c,9223372036854775807\n");
+        }
+        _ => return Err(Fail::new("not one action")),
+    }
+    for (report, name) in [(VALUES, "b"), (VALUES, "d"), ("no report", "a")] {
+        let refused = results_by_action(rt.alloc(), report.as_bytes(), &[name], form);
+        check(&rt, name, refused.is_err());
+    }
+    match results_by_action(rt.alloc(), b"quiet\n", &[], form) {
+        Ok(all) => check(&rt, "no action", all.is_empty()),
+        Err(_) => return Err(Fail::new("no results of no block")),
     }
     Ok(())
 }
