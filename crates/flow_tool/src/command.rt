@@ -46,6 +46,8 @@ enum Form {
     SomeWords(&'static str),
     /// A word behind the argument's own name.
     Named(&'static str),
+    /// The same, as often as is wanted.
+    Repeated(&'static str),
     /// The argument's own name alone, which never stands beside these.
     Flag(&'static [&'static str]),
 }
@@ -127,9 +129,14 @@ const RESULTS: Entry = Entry {
     name: "results",
     about: "Prints what actions recorded",
     below: "\
+With --files each action has a file of its own in FOLDER, with what would be printed of it alone, and the names of the files
+are printed. The file is ACTION.csv, .jsonl or .json, with an _ in front of a name that begins with . or -. Names that differ
+only in the case of letters are refused, and so is a file that is there already; nothing is written then.
+
 example:
-  flow results run.report ledger > ledger.csv
-  flow_run network.toml 1 < records.csv | flow results --jsonl -",
+  flow results --header run.report ledger > ledger.csv
+  flow_run network.toml 1 < records.csv | flow results --jsonl -
+  flow results --header --files tables run.report",
     arguments: &[
         REPORT,
         argument!(
@@ -148,6 +155,21 @@ example:
             "A JSON object for each result"
         ),
         argument!("json", Form::Flag(&["csv", "jsonl"]), "One JSON object"),
+        argument!(
+            "header",
+            Form::Flag(&["jsonl", "json"]),
+            "Begins with a row of names, and fills each row up to as many columns"
+        ),
+        argument!(
+            "files",
+            Form::Named("FOLDER"),
+            "Writes a file for each action, in this folder"
+        ),
+        argument!(
+            "force",
+            Form::Flag(&[]),
+            "Replaces files that are there already, but never REPORT"
+        ),
     ],
 };
 
@@ -162,6 +184,59 @@ example:
     arguments: &[
         REPORT,
         argument!("value", Form::Needed("VALUE"), "The value"),
+    ],
+};
+
+const FEED: Entry = Entry {
+    name: "feed",
+    about: "Makes records of the rows of a CSV file",
+    below: "\
+Each COLUMN=INPUT makes a record `INPUT,text` of each row, in the order in which they are named. A COLUMN is a name of the
+header or, without --header, a number from 1; # is the number of the row, from 1. The first row says how many fields each
+has. A row with more or fewer, one that is not UTF-8 and one with a quote that is never closed are bad. The first bad row
+ends the work with status 2, behind the records of the rows before it. With --bad the work goes on, and the status is 1 where
+there were bad rows. Lines without anything are no rows.
+
+example:
+  flow feed --header orders.csv amount=orders customer=customers '#=rows' | flow_run network.toml 1 > run.report
+  flow feed --header --where country=NL --bad bad.csv orders.csv amount=dutch > records.csv
+  flow feed --header --key id orders.csv amount=orders | flow split 8 --by-key -",
+    arguments: &[
+        argument!(
+            "rows",
+            Form::Needed("FILE"),
+            "The CSV file, or - for standard input"
+        ),
+        argument!(
+            "columns",
+            Form::SomeWords("COLUMN=INPUT"),
+            "A column, and the input that its texts go to"
+        ),
+        argument!(
+            "header",
+            Form::Flag(&[]),
+            "Takes the names of columns from the first row, which is no row then"
+        ),
+        argument!(
+            "where",
+            Form::Repeated("COLUMN=TEXT"),
+            "Takes rows alone that have this text there; all must hold where there are several"
+        ),
+        argument!(
+            "key",
+            Form::Named("COLUMN"),
+            "Writes key,INPUT,text with the text of this column as the key, for flow split --by-key"
+        ),
+        argument!(
+            "bad",
+            Form::Named("BAD"),
+            "Writes bad rows to the file BAD as they stand, and says how many at the end"
+        ),
+        argument!(
+            "force",
+            Form::Flag(&[]),
+            "Replaces BAD where it is there already, but never FILE"
+        ),
     ],
 };
 
@@ -258,6 +333,7 @@ pub fn command_line<'a>(alloc: Global) -> Result<Command<'a>, AllocError> {
         why(),
         results(),
         trace(),
+        feed(),
         sift(),
         split(),
         merge(),
@@ -289,6 +365,10 @@ fn results() -> Entry {
 
 fn trace() -> Entry {
     TRACE
+}
+
+fn feed() -> Entry {
+    FEED
 }
 
 fn sift() -> Entry {
@@ -334,6 +414,10 @@ fn made_of<'a>(alloc: Global, argument: Argument) -> Result<Arg<'a>, AllocError>
             .action(ArgAction::Append)
             .num_args(1..),
         Form::Named(name) => made.value_name(name).long(argument.id),
+        Form::Repeated(name) => made
+            .value_name(name)
+            .long(argument.id)
+            .action(ArgAction::Append),
         Form::Flag(others) => return flag(made, argument.id, others),
     })
 }

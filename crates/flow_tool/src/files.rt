@@ -13,7 +13,16 @@ use std::io::{BufReader, Input, Read};
 pub const STANDARD_INPUT: &str = "-";
 
 /// Where the system shows the file that standard input is.
-pub const STANDARD_INPUT_FILE: &str = "/dev/stdin";
+const STANDARD_INPUT_FILE: &str = "/dev/stdin";
+
+/// The file that is read where this one is named.
+pub fn file_of(path: &str) -> &str {
+    if path == STANDARD_INPUT {
+        STANDARD_INPUT_FILE
+    } else {
+        path
+    }
+}
 
 /// The bytes of a file, or of standard input.
 pub fn read_file<R: Files + Input + AllocGlobal>(rt: &R, path: &str) -> Result<Vec<u8>, Stop> {

@@ -3,16 +3,20 @@
 
 mod checking;
 mod command;
+mod feeding;
 mod files;
 mod output;
 mod part_files;
 mod parts;
 mod reports;
+mod result_files;
 mod sifting;
 mod stop;
+mod whole_files;
 
 use crate::checking::check;
 use crate::command::command_line;
+use crate::feeding::feed;
 use crate::parts::{merge, split};
 use crate::reports::{draw, results, trace, why};
 use crate::sifting::sift;
@@ -113,6 +117,7 @@ fn dispatch<R: Files + Input + Print + Eprint + AllocGlobal>(
         Some(("why", given)) => why(rt, given),
         Some(("results", given)) => results(rt, given),
         Some(("trace", given)) => trace(rt, given),
+        Some(("feed", given)) => feed(rt, given),
         Some(("sift", given)) => sift(rt, given),
         Some(("split", given)) => split(rt, given),
         Some(("merge", given)) => merge(rt, given),

@@ -1,10 +1,9 @@
 //! `flow split` and `flow merge`.
-use crate::files::{
-    STANDARD_INPUT, STANDARD_INPUT_FILE, read_file, read_network, read_text_report,
-};
+use crate::files::{STANDARD_INPUT, file_of, read_file, read_network, read_text_report};
 use crate::output::{finish, output};
 use crate::part_files::PartFiles;
 use crate::stop::Stop;
+use crate::whole_files::Rules;
 use clap::ArgMatches;
 use flow_outcome::{MergeFault, Outline, merge_reports, worst_status};
 use flow_pieces::{KeyFault, KeyedPieces, Pairing, PieceFault, cut_records, deal_by_key};
@@ -69,15 +68,18 @@ fn write_by_key<R: Files + Print + AllocGlobal>(
 
 /// Where the parts go to of the records that are read from here.
 fn files_of<'a>(given: &ArgMatches<'a>, path: &'a str) -> PartFiles<'a> {
-    let (name, records) = if path == STANDARD_INPUT {
-        ("records", STANDARD_INPUT_FILE)
+    let name = if path == STANDARD_INPUT {
+        "records"
     } else {
-        (path, path)
+        path
     };
     PartFiles {
         name: given.get_str("name").unwrap_or(name),
-        records,
-        may_replace: given.get_flag("force"),
+        rules: Rules {
+            source: file_of(path),
+            read: "the records are read from it",
+            may_replace: given.get_flag("force"),
+        },
         unmatched: given.get_str("unmatched"),
     }
 }

@@ -1,11 +1,13 @@
 //! `flow draw`, `flow why`, `flow results` and `flow trace`.
-use crate::files::{read_file, read_network, read_text_report};
+use crate::files::{file_of, read_file, read_network, read_text_report};
 use crate::output::{finish, output};
+use crate::result_files::ResultFiles;
 use crate::stop::Stop;
+use crate::whole_files::Rules;
 use clap::ArgMatches;
 use flow_outcome::{
-    DrawStyle, Outline, ResultsError, ResultsForm, TellFault, write_drawing, write_results,
-    write_trace, write_verdict,
+    DrawStyle, Outline, ResultsError, ResultsForm, TellFault, results_by_action, write_drawing,
+    write_results, write_trace, write_verdict,
 };
 use flow_plan_outline::outline_of;
 use flow_reading::Report;
@@ -76,29 +78,75 @@ pub fn why<R: Files + Input + Print + AllocGlobal>(
     }
 }
 
-/// Prints what actions recorded.
+/// Prints what actions recorded, or writes it to files.
 pub fn results<R: Files + Input + Print + AllocGlobal>(
     rt: &R,
     given: &ArgMatches<'_>,
 ) -> Result<u8, Stop> {
     let path = given.get_str("report").unwrap_or("");
+    let folder = given.get_str("files");
+    let may_replace = given.get_flag("force");
+    if may_replace && folder.is_none() {
+        return Err(Stop::usage("--force is for --files"));
+    }
     let text = read_file(rt, path)?;
     let names = given.get_strs("blocks").unwrap_or(&[]);
-    let form = match (given.get_flag("jsonl"), given.get_flag("json")) {
-        (true, _) => ResultsForm::JsonLines,
-        (false, true) => ResultsForm::Json,
-        (false, false) => ResultsForm::Csv,
+    let form = form_of(given);
+    let Some(folder) = folder else {
+        return print_results(rt, path, &text, names, form);
     };
+    let rules = Rules {
+        source: file_of(path),
+        read: "the report is read from it",
+        may_replace,
+    };
+    let files = ResultFiles {
+        folder,
+        rules,
+        form,
+    };
+    match results_by_action(rt.alloc(), &text, names, form) {
+        Ok(results) => files.write(rt, &results)?,
+        Err(error) => return Err(no_results(path, error)),
+    }
+    Ok(0)
+}
+
+fn form_of(given: &ArgMatches<'_>) -> ResultsForm {
+    match (
+        given.get_flag("jsonl"),
+        given.get_flag("json"),
+        given.get_flag("header"),
+    ) {
+        (true, _, _) => ResultsForm::JsonLines,
+        (false, true, _) => ResultsForm::Json,
+        (false, false, true) => ResultsForm::NamedCsv,
+        (false, false, false) => ResultsForm::Csv,
+    }
+}
+
+/// Prints what actions of the report in the file of this name recorded.
+fn print_results<R: Print + AllocGlobal>(
+    rt: &R,
+    path: &str,
+    text: &[u8],
+    names: &[&str],
+    form: ResultsForm,
+) -> Result<u8, Stop> {
     let mut writer = output(rt)?;
-    match write_results(rt.alloc(), &text, names, form, &mut writer) {
+    match write_results(rt.alloc(), text, names, form, &mut writer) {
         Ok(()) => finish(writer, 0),
-        Err(ResultsError::Write) => Err(Stop::no_output()),
-        Err(ResultsError::Memory) => Err(Stop::from(AllocError)),
-        Err(
-            error @ (ResultsError::Report(_)
-            | ResultsError::NoBlock(_)
-            | ResultsError::NoAction(_)),
-        ) => Err(Stop::refused(path, &error)),
+        Err(error) => Err(no_results(path, error)),
+    }
+}
+
+/// What it comes to that there are no results of the report in the file of this name.
+fn no_results(path: &str, error: ResultsError<'_>) -> Stop {
+    match error {
+        ResultsError::Write => Stop::no_output(),
+        ResultsError::Memory => Stop::from(AllocError),
+        error @ (ResultsError::Report(_) | ResultsError::NoBlock(_) | ResultsError::NoAction(_)) =>
+            { Stop::refused(path, &error) }
     }
 }
 
