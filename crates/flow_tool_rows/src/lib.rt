@@ -1,5 +1,5 @@
 //! Tests of the tools around a run: what is said of networks and records, what is read and made of reports, records that are
-//! cut and dealt out, records that are run alone, and reports of parts that are merged.
+//! cut and dealt out, rows as records, records that are run alone, and reports of parts that are merged.
 #![tactic(auto)]
 
 #[cfg(test)]
@@ -10,6 +10,8 @@ mod broken_texts;
 mod check;
 #[cfg(test)]
 mod cuts;
+#[cfg(test)]
+mod feed;
 #[cfg(test)]
 mod hints;
 #[cfg(test)]
