@@ -9,6 +9,9 @@ from accept.tally import first_difference
 
 PAGE = "examples/README.md"
 
+# The pages that show calls of `bin/flow`.
+PAGES = [PAGE, "examples/orders/README.md"]
+
 # How many workers each example is run with. With one a report is the page's, line by line.
 ALONE = "1"
 SEVERAL = "4"
@@ -109,9 +112,15 @@ def shown_commands(page):
             yield command, block
 
 
+def calls_shown(copy):
+    """The same of all pages, one after another."""
+    for page in PAGES:
+        yield from shown_commands(text_of(copy, page))
+
+
 def run_shown(part, copy):
-    """What `bin/flow` prints is what the page shows."""
-    for command, wanted in shown_commands(text_of(copy, PAGE)):
+    """What `bin/flow` prints is what the pages show."""
+    for command, wanted in calls_shown(copy):
         ended = run(command, copy)
         if wanted is not None:
             pairs = [] if ended.out == wanted else [("output", *first_difference(wanted, ended.out))]

@@ -10,7 +10,7 @@ import subprocess
 import tarfile
 
 from accept import callers
-from accept.examples import ALONE, PAGE, command_of, compare_report, names_of, shown_commands, text_of, wanted_of
+from accept.examples import ALONE, calls_shown, command_of, compare_report, names_of, text_of, wanted_of
 from accept.pages import Tree, broken_links
 from accept.shell import run
 from accept.tally import first_difference
@@ -170,7 +170,7 @@ def run_example(part, copy, root, name):
 
 
 def unpack(part, copy, room, has_library):
-    """Unpacks the archive, and makes each call of the page of examples in its folder, which is the root; then those of its library."""
+    """Unpacks the archive, and makes each call of the pages of examples in its folder, which is the root; then those of its library."""
     name = archive_of(copy)
     with tarfile.open(os.path.join(copy, "out", name)) as archive:
         archive.extractall(room)
@@ -181,7 +181,7 @@ def unpack(part, copy, room, has_library):
     for name in names_of(copy):
         command = command_of(name, ALONE)
         compare_report(part, f"{command}, unpacked", wanted_of(root, name), run(begin + command, root))
-    for command, wanted in shown_commands(text_of(root, PAGE)):
+    for command, wanted in calls_shown(root):
         ended = run(re.sub(r"\bbin/flow", f"{begin}bin/flow", command), root)
         if wanted is not None:
             pairs = [] if ended.out == wanted else [("output", *first_difference(wanted, ended.out))]

@@ -4,7 +4,7 @@ import glob
 import os
 import re
 
-FOLDERS = ["docs", "examples"]
+FOLDERS = ["docs", "examples", "examples/orders"]
 
 # Scripts that run parts of records.
 SCRIPTS = ["examples/slurm/*.sh"]
