@@ -38,6 +38,6 @@ module _ (fields : List (List ℕ)) (digits : List ℕ) where
   has_all tests at over before = subst (λ (sent : List Test). HasAll fields digits sent) (take_all at tests over) before
 
 -- what holds is not denied, whatever the answer
-pub on_ok_never : {T E Has Left : Type 0} (result : Result T E) → Has → OnOk result ((Has → ⊥) → Left)
-on_ok_never (Ok _) has = λ lacks. absurd (lacks has)
-on_ok_never (Err _) has = tt
+pub on_ok_never : {T E Has : Type 0} (Left : Type 0) (result : Result T E) → Has → OnOk result ((Has → ⊥) → Left)
+on_ok_never Left (Ok _) has = λ lacks. absurd (lacks has)
+on_ok_never Left (Err _) has = tt
