@@ -28,7 +28,7 @@ fn text_at<'r>(row: Numbered<'r>, column: Column) -> &'r [u8]
 }
 
 /// Whether a row has all that it must have.
-#[tactic(auto, using(crate::proofs::RowsHave::has_more, crate::proofs::RowsHave::has_each, crate::proofs::RowsHave::has_all))]
+#[tactic(auto, using(crate::proofs::RowsHave::has_all))]
 pub(crate) fn is_wanted(choice: &Choice<'_>, row: Numbered<'_>) -> bool
     ensures taken { result ≡ true → HasAll (fields_of row.entry.row.now) row.entry.digits.now choice.now.tests.items }
     ensures left { result ≡ false → HasAll (fields_of row.entry.row.now) row.entry.digits.now choice.now.tests.items → ⊥ }

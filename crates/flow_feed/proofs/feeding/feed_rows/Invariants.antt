@@ -8,5 +8,6 @@ invariant-rows g l = record {
   between : IsBetween l.writer;
   stopped : l.on_bad ≡ Stop → l.fed.bad ≡ 0;
   counted : l.fed.bad ≤ l.fed.rows;
+  fits : l.fed.rows ≤ 18446744073709551615;
   first : (l.fed.bad ≡ 0) ↔ (l.fed.first_bad ≡ None);
 }
