@@ -5,6 +5,9 @@ mod text;
 
 use crate::damage::damage_in;
 use crate::drawing::graph::write_graph;
+pub use crate::drawing::notes::{
+    write_counts, write_crossed, write_link, write_options, write_state, write_terms,
+};
 use crate::drawing::text::write_text;
 use crate::fault::TellFault;
 use crate::fit::check_fit;

@@ -16,7 +16,10 @@ mod verdict;
 
 pub use admits::Admits;
 pub use damage::{Damage, damage_in};
-pub use drawing::{DrawStyle, write_drawing};
+pub use drawing::{
+    DrawStyle, write_counts, write_crossed, write_drawing, write_link, write_options, write_state,
+    write_terms,
+};
 pub use fault::TellFault;
 pub use fit::{Misfit, check_fit};
 pub use kind::Kind;
@@ -24,4 +27,4 @@ pub use merge::{MergeFault, merge_reports, report_status, worst_status};
 pub use outline::{BlockOutline, LinkOutline, Outline, given_over};
 pub use results::{ActionResults, ResultsError, ResultsForm, results_by_action, write_results};
 pub use trace::write_trace;
-pub use verdict::write_verdict;
+pub use verdict::{is_through, write_verdict};

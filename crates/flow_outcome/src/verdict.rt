@@ -48,7 +48,7 @@ pub(crate) fn undone_blocks(report: &Report) -> usize {
 }
 
 /// Whether a block is done, and no record waits at it.
-fn is_through(block: &BlockReport) -> bool {
+pub fn is_through(block: &BlockReport) -> bool {
     match (block.state, block.input) {
         (State::Done, None) => true,
         (State::Done, Some(input)) => input.is_empty(),

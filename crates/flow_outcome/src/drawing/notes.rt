@@ -14,7 +14,7 @@ pub(crate) fn reported<'r, 't>(
 }
 
 /// Writes how many messages crossed the link with this number, behind these words; nothing without a report.
-pub(crate) fn write_crossed<W: Write>(
+pub fn write_crossed<W: Write>(
     writer: &mut W,
     outline: &Outline,
     report: Option<&Report>,
@@ -41,7 +41,7 @@ enum Side {
 }
 
 /// Writes what a block is asked for, behind its kind.
-pub(crate) fn write_options<W: Write>(writer: &mut W, block: &BlockOutline) -> io::Result<()> {
+pub fn write_options<W: Write>(writer: &mut W, block: &BlockOutline) -> io::Result<()> {
     let kind = block.kind;
     write!(writer, "{kind}")?;
     if block.input {
@@ -67,8 +67,27 @@ fn write_option<W: Write>(writer: &mut W, words: &str, number: Option<u32>) -> i
     }
 }
 
+/// Writes a link: its number, its target, and what it is asked for.
+pub fn write_link<W: Write>(
+    writer: &mut W,
+    outline: &Outline,
+    number: usize,
+    link: &LinkOutline,
+) -> io::Result<()> {
+    write!(writer, "link {number} -> ")?;
+    if let Some(target) = outline.blocks.get(link.to) {
+        let name = target.name;
+        let port = link.port;
+        write!(writer, "{name}")?;
+        if target.ports > 1 {
+            write!(writer, " port {port}")?;
+        }
+    }
+    write_terms(writer, link)
+}
+
 /// Writes what a link is asked for, each with a comma in front.
-pub(crate) fn write_terms<W: Write>(writer: &mut W, link: &LinkOutline) -> io::Result<()> {
+pub fn write_terms<W: Write>(writer: &mut W, link: &LinkOutline) -> io::Result<()> {
     match link.when {
         Admits::Any => {}
         when @ (Admits::Even
@@ -85,7 +104,7 @@ pub(crate) fn write_terms<W: Write>(writer: &mut W, link: &LinkOutline) -> io::R
 }
 
 /// Writes the state of a block.
-pub(crate) fn write_state<W: Write>(writer: &mut W, state: State) -> io::Result<()> {
+pub fn write_state<W: Write>(writer: &mut W, state: State) -> io::Result<()> {
     match state {
         State::Open => writer.write_all(b"open"),
         State::Completing => writer.write_all(b"completing"),
@@ -95,7 +114,7 @@ pub(crate) fn write_state<W: Write>(writer: &mut W, state: State) -> io::Result<
 }
 
 /// Writes how many messages a block took, and where others are, each with a comma in front.
-pub(crate) fn write_counts<W: Write>(writer: &mut W, block: &BlockReport) -> io::Result<()> {
+pub fn write_counts<W: Write>(writer: &mut W, block: &BlockReport) -> io::Result<()> {
     if let Some(input) = block.input {
         write_count(writer, ", waiting ", input.len())?;
     }

@@ -1,9 +1,9 @@
 //! A network as lines of text.
 use crate::damage::Damage;
 use crate::drawing::notes::{
-    reported, write_counts, write_crossed, write_options, write_state, write_terms,
+    reported, write_counts, write_crossed, write_link, write_options, write_state,
 };
-use crate::outline::{BlockOutline, LinkOutline, Outline};
+use crate::outline::{BlockOutline, Outline};
 use flow_reading::{BlockReport, Report, State};
 use std::io;
 use std::io::Write;
@@ -70,28 +70,11 @@ fn write_links<W: Write>(
 ) -> io::Result<()> {
     for (number, link) in outline.links.iter().enumerate() {
         if link.from == block {
+            writer.write_all(b"  ")?;
             write_link(writer, outline, number, link)?;
             write_crossed(writer, outline, report, number, ": ")?;
             writer.write_all(b"\n")?;
         }
     }
     Ok(())
-}
-
-fn write_link<W: Write>(
-    writer: &mut W,
-    outline: &Outline,
-    number: usize,
-    link: &LinkOutline,
-) -> io::Result<()> {
-    write!(writer, "  link {number} -> ")?;
-    if let Some(target) = outline.blocks.get(link.to) {
-        let name = target.name;
-        let port = link.port;
-        write!(writer, "{name}")?;
-        if target.ports > 1 {
-            write!(writer, " port {port}")?;
-        }
-    }
-    write_terms(writer, link)
 }
