@@ -22,7 +22,7 @@ impl fmt::Display for Escaped<'_> {
 }
 
 /// Whether a character turns the direction in which those beside it are shown.
-pub(crate) fn turns(character: char) -> bool {
+pub fn turns(character: char) -> bool {
     matches!(
         character,
         '\u{61c}' | '\u{200e}' | '\u{200f}' | '\u{202a}'..='\u{202e}' | '\u{2066}'..='\u{2069}'

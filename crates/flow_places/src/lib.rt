@@ -11,7 +11,7 @@ mod network;
 mod places;
 mod span;
 
-pub use escaped::Escaped;
+pub use escaped::{Escaped, turns};
 pub use excerpt::{Excerpt, excerpt_of};
 pub use lines::{Position, line_of, line_span, position_of};
 pub use network::{item_span, places_in};
