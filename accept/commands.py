@@ -93,6 +93,15 @@ FLOW = [
     ),
     Case("bin/flow draw examples/import.toml damaged.report", 0, f"{DAMAGED}\norders  buffer, input: done, took 3"),
     Case("bin/flow draw --dot examples/import.toml damaged.report | sed -n 4p", 0, f'  label="{DAMAGED}";'),
+    Case("bin/flow page examples/import.toml import.report | sed -n 1p", 0, "<!DOCTYPE html>"),
+    Case("bin/flow page examples/import.toml import.report | grep -c '<details.*class=\"done\"'", 0, "8"),
+    Case("bin/flow page examples/import.toml | grep -c '<details.*class=\"plain\"'", 0, "8"),
+    Case(
+        "bin/flow page examples/import.toml fault.report",
+        2,
+        "",
+        "flow: fault.report: the report is of another network: it has 2 blocks, and the network 8",
+    ),
     Case("bin/flow why examples/import.toml import.report", 0, None),
     Case(
         "bin/flow why examples/import.toml damaged.report",

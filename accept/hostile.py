@@ -23,6 +23,7 @@ FLOW = (
     "check examples/import.toml",
     "draw examples/import.toml",
     "results examples/batches.report",
+    "page examples/batches.toml examples/batches.report",
     "why examples/batches.toml examples/batches.report",
 )
 UNPRINTED = (5, "flow: standard output failed\n")

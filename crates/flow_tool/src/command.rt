@@ -114,6 +114,25 @@ example:
     ],
 };
 
+const PAGE: Entry = Entry {
+    name: "page",
+    about: "Makes a page for a browser of a network, and of what became of it",
+    below: "\
+The page has the network as a picture. With a report it tells first why the run ended so, and of each block what it took, held,
+gave and left, the first hundred of each list. It is one file, has no script, and asks for nothing from elsewhere.
+
+example:
+  flow page network.toml run.report > run.html",
+    arguments: &[
+        NETWORK,
+        argument!(
+            "report",
+            Form::Optional("REPORT"),
+            "The file with the report of a run, or - for standard input"
+        ),
+    ],
+};
+
 const WHY: Entry = Entry {
     name: "why",
     about: "Tells why a run ended with its status",
@@ -330,6 +349,7 @@ pub fn command_line<'a>(alloc: Global) -> Result<Command<'a>, AllocError> {
     let entries = [
         check(),
         draw(),
+        page(),
         why(),
         results(),
         trace(),
@@ -353,6 +373,10 @@ fn check() -> Entry {
 
 fn draw() -> Entry {
     DRAW
+}
+
+fn page() -> Entry {
+    PAGE
 }
 
 fn why() -> Entry {

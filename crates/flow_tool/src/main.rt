@@ -6,6 +6,7 @@ mod command;
 mod feeding;
 mod files;
 mod output;
+mod paging;
 mod part_files;
 mod parts;
 mod reports;
@@ -17,6 +18,7 @@ mod whole_files;
 use crate::checking::check;
 use crate::command::command_line;
 use crate::feeding::feed;
+use crate::paging::page;
 use crate::parts::{merge, split};
 use crate::reports::{draw, results, trace, why};
 use crate::sifting::sift;
@@ -114,6 +116,7 @@ fn dispatch<R: Files + Input + Print + Eprint + AllocGlobal>(
     match matches.subcommand() {
         Some(("check", given)) => check(rt, given),
         Some(("draw", given)) => draw(rt, given, coloured),
+        Some(("page", given)) => page(rt, given),
         Some(("why", given)) => why(rt, given),
         Some(("results", given)) => results(rt, given),
         Some(("trace", given)) => trace(rt, given),
