@@ -21,6 +21,8 @@ mod merged;
 #[cfg(test)]
 mod networks;
 #[cfg(test)]
+mod page;
+#[cfg(test)]
 mod places;
 #[cfg(test)]
 mod records;
