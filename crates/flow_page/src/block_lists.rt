@@ -1,6 +1,6 @@
 //! What a page says of each block, folded: what it took, holds, gave, recorded and left.
 use crate::columns::reported;
-use crate::escape::{Escaping, write_bytes};
+use crate::escape::write_bytes;
 use crate::picture::{write_heading, write_link_line};
 use crate::tone::{Tone, tone_of_block};
 use flow_outcome::{BlockOutline, Outline, given_over};
@@ -59,7 +59,7 @@ fn write_title<W: Write>(
         writer,
         "<details id=\"b{number}\" class=\"{class}\"><summary>"
     )?;
-    write_heading(&mut Escaping::new(&mut *writer), block, reported)?;
+    write_heading(writer, block, reported)?;
     writer.write_all(b"</summary><dl>\n")
 }
 
@@ -90,14 +90,26 @@ fn write_given<W: Write>(
             writer.write_all(b"<dt>")?;
             write_link_line(writer, outline, report, number, link)?;
             writer.write_all(b"</dt>\n")?;
-            if let Some(report) = report {
-                if let Some(given) = given_over(outline, report, number) {
-                    write_values(writer, given)?;
-                }
-            }
+            write_crossing(writer, outline, report, number)?;
         }
     }
     Ok(())
+}
+
+/// Writes what crossed the link with this number, if a report tells it.
+fn write_crossing<W: Write>(
+    writer: &mut W,
+    outline: &Outline,
+    report: Option<&Report>,
+    number: usize,
+) -> io::Result<()> {
+    let Some(report) = report else {
+        return Ok(());
+    };
+    match given_over(outline, report, number) {
+        Some(given) => write_values(writer, given),
+        None => Ok(()),
+    }
 }
 
 /// Writes what a block gave over its exit, and what it recorded or left.

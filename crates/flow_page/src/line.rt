@@ -66,9 +66,10 @@ pub(crate) fn fill_label(
     link: &LinkOutline,
 ) -> io::Result<()> {
     line.clear();
+    let link = *link;
     let asked = LinkOutline {
         propagate: false,
-        ..*link
+        ..link
     };
     write_terms(line, &asked)?;
     let words = if line.is_empty() { "" } else { ": " };

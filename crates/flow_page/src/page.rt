@@ -6,7 +6,7 @@ use crate::layout::layout_of;
 use crate::picture::write_picture;
 use crate::style::STYLE;
 use crate::tone::tone_of_run;
-use flow_outcome::{Outline, check_fit, write_verdict};
+use flow_outcome::{Outline, TellFault, check_fit, write_verdict};
 use flow_reading::Report;
 use std::alloc::Global;
 use std::io;
@@ -78,8 +78,19 @@ fn write_why<W: Write>(
 ) -> Result<(), PageFault> {
     let class = tone_of_run(outline, report).class();
     write!(writer, "<pre class=\"why {class}\">")?;
-    write_verdict(outline, report, &mut Escaping::new(&mut *writer))?;
+    write_lines(writer, outline, report)?;
     writer.write_all(b"</pre>\n")?;
+    Ok(())
+}
+
+/// Writes the lines of `flow why`.
+fn write_lines<W: Write>(
+    writer: &mut W,
+    outline: &Outline,
+    report: &Report,
+) -> Result<(), TellFault> {
+    let mut escaping = Escaping::new(&mut *writer);
+    write_verdict(outline, report, &mut escaping)?;
     Ok(())
 }
 

@@ -17,7 +17,7 @@ pre,code,summary,dt,text{font-family:ui-monospace,SFMono-Regular,Menlo,Consolas,
 .waiting{--fill:var(--waiting);--stroke:var(--waiting-edge)}
 .faulted{--fill:var(--faulted);--stroke:var(--faulted-edge)}
 .why{margin:0 0 1rem;padding:.6rem .9rem;white-space:pre-wrap;overflow-wrap:anywhere;background:var(--fill);
-border-left:4px solid var(--stroke);font-size:13px}
+border-left:4px solid var(--stroke);font-size:13px;max-height:40vh;overflow:auto}
 .key{margin:.5rem 0;color:var(--faint);font-size:13px}
 .key span{padding:.05rem .45rem;border:1px solid var(--stroke);border-radius:4px;background:var(--fill);color:var(--ink)}
 .picture{overflow:auto;max-height:85vh;border:1px solid var(--edge);border-radius:6px}
@@ -36,7 +36,7 @@ a:hover .box,a:focus .box{stroke-width:3}
 .tip{fill:var(--link)}
 details{margin:.35rem 0;border:1px solid var(--edge);border-left:4px solid var(--stroke);border-radius:4px}
 details:target{outline:2px solid var(--stroke)}
-summary{padding:.35rem .6rem;cursor:pointer;overflow-wrap:anywhere;font-size:13px;background:var(--fill)}
+summary{padding:.35rem .6rem;cursor:pointer;white-space:pre-wrap;overflow-wrap:anywhere;font-size:13px;background:var(--fill)}
 dl{margin:.4rem .8rem .7rem}
 dt{margin-top:.5rem;color:var(--faint);font-size:13px;overflow-wrap:anywhere}
 dd{margin:.15rem 0 0 1rem;overflow-wrap:anywhere}

@@ -25,7 +25,7 @@ pub(crate) fn write_boxes<W: Write>(
         write!(writer, "<a href=\"#b{number}\">")?;
         write_frame(writer, layout, number, reported)?;
         writer.write_all(b"<title>")?;
-        write_heading(&mut Escaping::new(&mut *writer), block, reported)?;
+        write_heading(writer, block, reported)?;
         writer.write_all(b"</title></rect>")?;
         write_rows(writer, layout, number, block, reported, line)?;
         writer.write_all(b"</a>\n")?;
@@ -61,12 +61,13 @@ pub(crate) fn write_heading<W: Write>(
     reported: Option<&BlockReport>,
 ) -> io::Result<()> {
     let name = block.name;
-    write!(writer, "{name}  ")?;
-    write_options(writer, block)?;
+    let mut escaping = Escaping::new(&mut *writer);
+    write!(escaping, "{name}  ")?;
+    write_options(&mut escaping, block)?;
     if let Some(reported) = reported {
-        writer.write_all(b": ")?;
-        write_state(writer, reported.state)?;
-        write_counts(writer, reported)?;
+        escaping.write_all(b": ")?;
+        write_state(&mut escaping, reported.state)?;
+        write_counts(&mut escaping, reported)?;
     }
     Ok(())
 }
