@@ -197,6 +197,12 @@ fn run_parts<
         &mut ||
             requires { AllEntriesOf board.now entries.now.items × AllExitsOf board.now exits.now.items
                 × ((state : S) → S.can_next state) × ((state : F) (value : Value) → F.pre state value) }
+            ensures { AllEntriesOf board.entry.now entries.exit.now.items × AllExitsOf board.entry.now exits.exit.now.items
+                × (map entry_number entries.exit.now.items ≡ map entry_number entries.entry.now.items)
+                × (map exit_number exits.exit.now.items ≡ map exit_number exits.entry.now.items)
+                × EachSends S.next_gives entries.entry.now.items senders.entry.now.items entries.exit.now.items senders.exit.now.items
+                × EachTakes (λ state value next. F.step state value tt next) exits.entry.now.items receivers.entry.now.items
+                exits.exit.now.items receivers.exit.now.items }
         { call_all(rt, alloc, board, entries, senders, exits, receivers, calm) },
     );
     match went {
@@ -240,6 +246,9 @@ fn call_all<
         rt,
         &mut ||
             requires { AllExitsOf board.now exits.now.items × ((state : F) (value : Value) → F.pre state value) }
+            ensures { AllExitsOf board.entry.now exits.exit.now.items × (map exit_number exits.exit.now.items ≡ map exit_number exits.entry.now.items)
+                × EachTakes (λ state value next. F.step state value tt next) exits.entry.now.items receivers.entry.now.items
+                exits.exit.now.items receivers.exit.now.items }
         { receive_all(rt, alloc, board, exits, receivers, calm) },
         &mut ||
             requires { AllEntriesOf board.now entries.now.items × ((state : S) → S.can_next state) }
