@@ -22,6 +22,8 @@
 //! a run                  Net::settle; run_paced, run_workers; run_open
 //! calls in mid-run       NetEntry, NetExit
 //! what came of it        record_of, state_of, Net, write_report; shown
+//!
+//! Proved: no function of its own: it gives out what the crates below promise.
 #![tactic(auto)]
 
 pub use flow_board::{OpenGate, Parts, gather};

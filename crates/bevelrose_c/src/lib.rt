@@ -2,6 +2,11 @@
 //!
 //! Each answers whatever the bytes are. A caller shares no memory with them but its texts, its room for answers, and a handle; and no
 //! thread is started, since a static library may start none. `bevelrose.h` beside this crate says what a caller in C has to keep.
+//!
+//! Proved: each export answers what flow_run and flow_text promise of the same bytes (specs/Answers.antt), whatever
+//! they are; a handle owns its network alone; a text goes to the caller's room only where it fits.
+//! Tested: the programs in C, Rust, C# and Python, under valgrind.
+//! Neither: that the caller keeps what the header asks; when memory is out.
 #![tactic(auto)]
 
 ghost use Rattle.std.specs.Prelude.{◌≡◌, None};

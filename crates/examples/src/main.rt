@@ -4,6 +4,10 @@
 //! says how many came in their turn. With arguments COUNT messages go only the ways with these numbers, 0 to 12 in the order of their
 //! lines, and each line ends with the nanoseconds that a message took. With the word `memory` that example runs alone, for those who
 //! refuse it memory.
+//!
+//! Proved: safe; each call asks no more than it may.
+//! Tested: what it prints, which the gate compares.
+//! Neither: that it ends.
 #![tactic(auto)]
 
 mod bench;

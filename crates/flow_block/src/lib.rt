@@ -22,6 +22,13 @@
 //! takes memory may be refused, and then nothing has changed; all other calls take none.
 //!
 //! What follows from these functions alone, as that each call keeps a block in order, stands in `flow_block_law`.
+//!
+//! Proved: each call of `Block` and `Node` is an exact function on plain data (specs/Block.antt, Node.antt,
+//! Jobs.antt, Traits.antt). A call that takes memory may be refused, and then nothing has changed; all others take
+//! none, as a fact of the types. Ids are refused exactly where one above 2^59 - 1 would be needed.
+//! Tested: that calls succeed where memory is ample.
+//! Neither: a broadcast driven by hand takes no offer back, so it is done only when each target consumed what it put
+//! off.
 #![tactic(auto)]
 
 mod answer;

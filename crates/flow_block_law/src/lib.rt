@@ -7,6 +7,10 @@
 //! groups of batched joins.
 //!
 //! Code that only calls blocks needs `flow_block` alone.
+//!
+//! Proved: laws alone: each call that may be made keeps a block in order, for all nine kinds; what a block would do
+//! next may be made and has its cause; a block in order keeps what a lawful run asks of it, and rests where its links
+//! do.
 #![tactic(auto)]
 
 mod copies_laws;

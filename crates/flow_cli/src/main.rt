@@ -1,4 +1,10 @@
 //! The program that runs a network from a file, or from standard input, and writes the report.
+//!
+//! Proved: arguments, statuses and the line of a failure are those of specs/Request.antt, Conclusion.antt and
+//! Failure.antt; the run is that of flow_run over what was read.
+//! Tested: its streams: the gate compares a stored run, and bin/accept refuses memory, reads and writes one by one.
+//! Neither: that the network is the one in the file, whose bytes no contract tells; `perform`, `arguments`,
+//! `unread_arguments`, `abandon`.
 #![tactic(auto)]
 
 ghost use Rattle.std.specs.Prelude.{◌≡◌, ◌↔◌, None};

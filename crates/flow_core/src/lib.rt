@@ -1,4 +1,7 @@
 //! A network of blocks and links, over every list of events: laws on plain states, without code.
+//!
+//! Proved: laws alone: each event that may happen keeps a network in order, for every list of events; a network in
+//! order is lawful, and quiet where nothing may happen; what is kept for one target goes to no other.
 #![tactic(auto)]
 
 mod laws;

@@ -9,6 +9,14 @@
 //! The queue has a rule, and each worker a pass for it that names the tasks which the worker holds. However they are weighed, the tasks of
 //! the round are those in the queue and those that passes name: so none is lost, and none comes twice. Which worker turns which task, and
 //! when, is open. The bell, on which workers sleep, is a hint: no contract speaks of it.
+//!
+//! Proved: with 1 to 64 workers and for every schedule: each task of a round comes back once, with a journal that
+//! goes on; the network that `run_workers` returns is lawful, goes on from the old one, and is quiet exactly where
+//! Quiet is answered; after a refusal it comes back, or all parts do.
+//! Tested: rounds and runs by 1, 2, 4, 8 and 64 workers come to the reports that are due; limits; two jobs at one
+//! time; memory refused at each growth.
+//! Neither: that a round does anything, or ends in any time; how many events are left at a limit. It takes Threads,
+//! Wait and Clock.
 #![tactic(auto)]
 
 mod bell;

@@ -9,6 +9,10 @@
 //!
 //! Microsoft: `ActionBlock`, `TransformBlock`, `TransformManyBlock`; the tasks in which an execution block calls its
 //! delegate, `ExecutionDataflowBlockOptions`.
+//!
+//! Proved: a result is what the job's own work makes of its message, as a fact of its type; an `Execution` takes a
+//! result only of its own job, and then goes on as with its own work.
+//! Tested: that jobs run on other threads; that calls succeed where memory is ample.
 #![tactic(auto)]
 
 mod execution;

@@ -9,6 +9,10 @@
 //!
 //! It never refuses and never reserves. Contracts see an `ExitState` (`specs/Exit.antt`). When an exit is in order, and that
 //! each call keeps it so, is in `specs/ExitKeeps.antt`.
+//!
+//! Proved: each call is its definition in specs/Exit.antt, and keeps the end in order; what its caller does changes
+//! nothing that the link knows.
+//! Tested: that calls succeed where memory is ample.
 #![tactic(auto)]
 
 mod exit_end;

@@ -3,6 +3,11 @@
 //!
 //! The verdict is that of `flow_plan_text` and `flow_record_text`, which read the texts for a run. What is found beside it
 //! never changes it.
+//!
+//! Proved: the verdict is that of `read_plan` and `read_records`; an accepted text has no error, and a refused one
+//! has at least one.
+//! Tested: the places and words of flaws, by tables of texts.
+//! Neither: that all flaws of a text are told: at most a hundred are.
 #![tactic(auto)]
 
 mod cause;

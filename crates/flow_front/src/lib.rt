@@ -8,6 +8,10 @@
 //! net.settle(alloc, 10_000)?;
 //! let recorded = record_of(&net, "ledger");
 //! ```
+//!
+//! Proved: `post` and `end` put what they are given at the input of that name, or refuse it unchanged; `start` gives
+//! a network what it asks for; records and states are those of the block of that name.
+//! Tested: that calls succeed where memory is ample.
 #![tactic(auto)]
 
 mod inputs;

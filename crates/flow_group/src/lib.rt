@@ -8,6 +8,11 @@
 //! Each row is copied first, and then its messages are taken off their ports, all together: between these two steps a
 //! block may put the row where it goes, and nothing has changed where that fails. The room of the messages comes back when
 //! the row is given, which is the block's to tell.
+//!
+//! Proved: tuples of joins are whole and in order; groups of batched joins are cut in the order of arrival; the round
+//! of a reserving join asks by block number, claims only when all are held, and releases all once one is gone. Where
+//! memory is out, nothing has changed.
+//! Tested: that calls succeed where memory is ample.
 #![tactic(auto)]
 
 mod arrivals;

@@ -10,6 +10,11 @@
 //!
 //! A caller who knows a block by its traits alone has laws of traits: by [`SteadyTarget`] and [`PropagatorBlock`] its ports stay,
 //! whatever is called.
+//!
+//! Proved: laws alone, over any list of calls by hand: what was taken is given, left or held, once each and in order;
+//! rows, tuples and groups are whole; links get what they admit, in order and within their limits; results are those
+//! of their messages. Which ports a block has never changes.
+//! Neither: that a block which is driven so comes to its end.
 #![tactic(auto)]
 
 mod laws;

@@ -11,6 +11,11 @@
 //!
 //! Contracts see an `InputState` (`specs/Input.antt`), and its caller's part of it as a port does (`specs/Sends.antt`). When an
 //! input is in order, and that each call keeps it so, is in `specs/InputKeeps.antt`.
+//!
+//! Proved: each call is an exact function on the input as plain data (specs/Input.antt, Sends.antt), and keeps it in
+//! order; what the network does leaves what is posted, but for a value that is turned down; what the caller is told
+//! became of a value became of it.
+//! Tested: that calls succeed where memory is ample.
 #![tactic(auto)]
 
 mod caller;

@@ -10,6 +10,10 @@
 //! A driver that knows the places of its links uses the calls by place: it looks, asks what its end would do, and does
 //! it. Whoever plays the far ends itself uses the calls by link (`specs/ByLink.antt`). When a port is in order, and
 //! that each call keeps it so, is in `specs/PortLaw.antt` and `specs/PortKeeps.antt`.
+//!
+//! Proved: each call is an exact function on the port as plain data (specs/Calls.antt, ByLink.antt), and keeps a port
+//! in order; what it took and what comes fit into the capacity. Where memory is out, the port is as it was.
+//! Tested: that calls which take memory succeed where it is ample.
 #![tactic(auto)]
 
 mod end;

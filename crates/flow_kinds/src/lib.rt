@@ -17,6 +17,12 @@
 //!
 //! Microsoft: `BufferBlock`, `BroadcastBlock`, `WriteOnceBlock`, `BatchBlock`, `JoinBlock`, `BatchedJoinBlock`,
 //! `ActionBlock`, `TransformBlock`, `TransformManyBlock`.
+//!
+//! Proved: `new` gives exactly the block of the plan with that number, in which nothing has happened; each type is of
+//! its kind, as a fact of it. The common calls are those of the block below. A batched join notes arrivals with its
+//! messages; a reserving join wishes by its round (specs/Wishes.antt), and its ports stay level.
+//! Tested: that calls succeed where memory is ample.
+//! Neither: that the plan's block is of the type's kind, which the caller knows.
 #![tactic(auto)]
 
 mod batched_calls;

@@ -3,6 +3,9 @@
 //!
 //! No crate stands on this one. The definitions stand in [`flow_link`] (`LinkOk`) and [`flow_lawful`] (`Lawful`, `Quiet`),
 //! and so do the lemmas from which others prove: a change of an example has nothing but the examples proved anew.
+//!
+//! Proved: laws alone: moves and looks keep a link in order; a network of parts in order is lawful, and quiet where
+//! they rest; of 21 good and 39 wrong runs each is told apart, each wrong one by exactly one test.
 #![tactic(auto)]
 
 mod laws;

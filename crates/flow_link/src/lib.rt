@@ -8,6 +8,12 @@
 //! What a run leaves behind is a journal of marks for each block. Which runs are lawful and which are quiet are
 //! definitions of `flow_lawful`; `flow_law` states the laws, and shows by examples what the definitions let through and
 //! what they refuse.
+//!
+//! Proved: the table of moves of a link and its words; what kinds, options and plans tell; `plan_check` answers a
+//! plan only where no rule of the format is broken, else the first fault in its order, and the draft comes back
+//! whole. The traits of blocks say of each call when it may be made and what it changes.
+//! Tested: words as numbers; that a mark takes 24 bytes; that good drafts are accepted where memory is ample.
+//! Neither: the texts of its faults.
 #![tactic(auto)]
 
 mod builder;

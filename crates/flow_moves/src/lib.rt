@@ -3,6 +3,12 @@
 //!
 //! A [`Parts`] is all blocks, inputs, exits and links of a network, by their numbers. Each event is one call, which may be
 //! refused where memory or message ids are out; then nothing has changed.
+//!
+//! Proved: each event and each look is exactly what the definitions say (`after` of flow_core), and a message over a
+//! link or a job in one call what its events come to, one after another. Where memory or ids are out, nothing has
+//! changed.
+//! Tested: that calls succeed where memory is ample.
+//! Neither: that an input without an id for its next value does nothing next.
 #![tactic(auto)]
 
 mod ends;

@@ -1,5 +1,10 @@
 //! A network as people are told of it, and what became of it by the report of a run: drawings, why the run ended so, where a
 //! value was, what actions recorded, and reports of parts as that of the whole.
+//!
+//! Proved: safe and total, whatever the report.
+//! Tested: results in all forms, traces, drawings, verdicts; merged reports of each kind and each refusal; damaged
+//! reports.
+//! Neither: what drawings and verdicts say; what a kind says of itself.
 #![tactic(auto)]
 
 mod admits;

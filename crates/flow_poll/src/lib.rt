@@ -17,6 +17,12 @@
 //! Crew              a turn of each, in order    once none has moved, or their turns are used up
 //!
 //! All but Completion are also ready where there is no memory. Then what they wait for is as it was, and may be tried again.
+//!
+//! Proved: each future, in the words of the port that it was made with: what became of the value, what was received,
+//! how it ended; what comes back is the port or actor that was handed in. A way in, a way out and an actor are
+//! traits, whose laws the ports of networks and boards meet.
+//! Tested: that futures become ready; that ports take what they may where memory is ample.
+//! Neither: that a pending future ever becomes ready; what an actor counts as an event.
 #![tactic(auto)]
 
 mod actor;

@@ -3,6 +3,9 @@
 //! ```
 //! println!(rt; "{}", shown(&value))?;
 //! ```
+//!
+//! Proved: safe, and it ends.
+//! Tested: what it prints.
 #![tactic(auto)]
 
 mod in_report;

@@ -15,6 +15,11 @@
 //! the link ended               as before                 as before
 //!
 //! A link that is cut or over, or whose predicate turns the element away, never owes it.
+//!
+//! Proved: each call is an exact function on the spread as plain data (specs/Spread.antt, ByLink.antt). Each link has
+//! some of the elements, in order and once each, all admitted and within its limit, and each other element has its
+//! account there.
+//! Tested: that calls which take memory succeed where it is ample.
 #![tactic(auto)]
 
 mod end;

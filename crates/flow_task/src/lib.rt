@@ -1,5 +1,12 @@
 //! The parts of a scattered network: its board, the tasks that threads turn, the entries and exits of callers, and the watches. They are
 //! made of the blocks, links, inputs and exits of a network that is apart, and taken apart again. No network is named here.
+//!
+//! Proved: a turn does events that come next, at most as many as it may, and says Idle, Moved or Ended only where
+//! that is so (specs/Laned.antt and its neighbours); journals go on; entries and exits tell what became of values; a
+//! ticket in a lane is out in its block. Which parts cross threads is a law of each type.
+//! Tested: turns and ports, in flow_board_rows and flow_turn_rows.
+//! Neither: when memory is out; how fast turns are; what `peek` tells; that a look or a read really looks; that a
+//! task ends as soon as it may; that a lane's task tells its own block.
 #![tactic(auto)]
 
 mod apart;

@@ -6,6 +6,8 @@
 //! // a network is made of both, and runs
 //! write_report(alloc, &net, settled, &mut writer)?;
 //! ```
+//!
+//! Proved: no function of its own.
 #![tactic(auto)]
 
 pub use flow_fault_text::{TextFault, TextPlace, TextRefusal};

@@ -1,4 +1,8 @@
 //! The program for people at a terminal: what is beside a run of `flow_run`, before it and after it.
+//!
+//! Proved: safe and total; want of memory of the system ends it with status 4.
+//! Tested: its commands, by bin/accept and flow_tool_rows.
+//! Neither: what it prints.
 #![tactic(auto)]
 
 mod checking;
