@@ -203,26 +203,11 @@ posts-within names (_ ∷ []) i text posts = absurd posts
 posts-within names (_ ∷ _ ∷ _ ∷ _) i text posts = absurd posts
 posts-within names (first ∷ second ∷ []) i text posts = named-within names first i posts.0
 
--- a fault of the first record that can't be posted is explained
-explained : (names : List (List ℕ)) (bytes : List ℕ) (fault : TextFault) → IsFirstFault names bytes fault → Explains names bytes (Fault fault)
-explained names bytes Read first = tt
-explained names bytes (Csv n) first = first
-explained names bytes (NotUtf8 n) first = first
-explained names bytes (UnknownInput n) first = first
-explained names bytes _ first = first
-
--- nothing is said of a reader that failed, nor of memory
-pub unexplained : (names : List (List ℕ)) (bytes : Option (List ℕ)) (refusal : TextRefusal) → (refusal ≡ Memory) ⊎ (refusal ≡ Fault Read)
-    → IfSome bytes (λ text. Explains names text refusal)
-unexplained names None refusal why = tt
-unexplained names (Some bytes) refusal (inl why) = subst (λ (told : TextRefusal). Explains names bytes told) (sym why) tt
-unexplained names (Some bytes) refusal (inr why) = subst (λ (told : TextRefusal). Explains names bytes told) (sym why) tt
-
 -- the number of the next record
-next-number : (number next count : ℕ) → number ≡ told_number count → next ≡ min (number + 1) (2 ^ 64 - 1) → next ≡ told_number (count + 1)
+pub next-number : (number next count : ℕ) → number ≡ told_number count → next ≡ min (number + 1) (2 ^ 64 - 1) → next ≡ told_number (count + 1)
 next-number number next count here counted = omega (arith, here, counted)
 
-counted-on : (rows : List Row) (row : Row) (number next : ℕ) → number ≡ told_number (length rows) → next ≡ min (number + 1) (2 ^ 64 - 1)
+pub counted-on : (rows : List Row) (row : Row) (number next : ℕ) → number ≡ told_number (length rows) → next ≡ min (number + 1) (2 ^ 64 - 1)
     → next ≡ told_number (length (rows ++ row ∷ []))
 counted-on rows row number next here counted = next-number number next (length rows) here counted ∙ ap told_number (sym (length-append rows (row ∷ [])))
 
@@ -237,62 +222,10 @@ fault-of_records names number (_ ∷ []) _ h = h
 fault-of_records names number (_ ∷ _ ∷ []) _ h = h
 fault-of_records names number (_ ∷ _ ∷ _ ∷ _) _ h = h
 
--- what was read of a text so far: its first records, which can all be posted, and what they post
-pub record SoFar {R : Type 0} (known : R → Option (List ℕ)) (names : List (List ℕ)) (number : ℕ) (values : List (List Value)) (reader : Reader R) (bytes : List ℕ) : Type 0 where
-  pub rows : List Row
-  pub left : List ℕ
-  pub source : source_of known reader ≡ Some left
-  pub reached : Reached default_config at.StartRecord (strip_bom bytes) rows (reader_state reader) left
-  pub fine : AllFine names rows
-  pub count : number ≡ told_number (length rows)
-  pub posted : values ≡ records names rows
-
--- nothing was read
-pub read-start : {R : Type 0} (known : R → Option (List ℕ)) (names : List (List ℕ)) (count : ℕ) (values : List (List Value)) (a : Reader R) (bytes : Option (List ℕ))
-    → count ≡ length names → values ≡ replicate count [] → source_of known a ≡ option_map strip_bom bytes → reader_state a ≡ at.StartRecord
-    → IfSome bytes (SoFar known names 0 values a)
-unfolding Reached
-read-start known names count values a None counted none source state = tt
-read-start known names count values a (Some bytes) counted none source state = record {
-  rows = [];
-  left = strip_bom bytes;
-  source = source;
-  reached = (sym state, refl);
-  fine = tt;
-  count = refl;
-  posted = none ∙ ap (λ n. replicate n []) counted ∙ sym (records-none names);
-}
-
-module _ {R : Type 0} (known : R → Option (List ℕ)) (names : List (List ℕ)) (number : ℕ) (values : List (List Value)) (a b : Reader R) (row : Row)
-    (config : reader_config a ≡ default_config) where
-  -- one more record that is posted
-  pub read-more : (bytes : Option (List ℕ)) (next i : ℕ) (text : List ℕ) (after : List (List Value)) → IfSome bytes (SoFar known names number values a)
-      → ReadRecord known a b true row → PostsTo names row i text → after ≡ set values i (get_or values i [] ++ Text text ∷ [])
-      → next ≡ min (number + 1) (2 ^ 64 - 1) → IfSome bytes (SoFar known names next after b)
-  read-more None next i text after so_far read posts is counted = tt
-  read-more (Some bytes) next i text after so_far read posts is counted =
-      let more = rows-more known a b row default_config at.StartRecord (strip_bom bytes) so_far.left so_far.rows config so_far.source so_far.reached read in
-      record {
-        rows = so_far.rows ++ row ∷ [];
-        left = more.0;
-        source = more.1;
-        reached = more.2;
-        fine = all-fine-more names so_far.rows row so_far.fine (posts-fine names row i text posts);
-        count = counted-on so_far.rows row number next so_far.count counted;
-        posted = is ∙ ap (λ vs. set vs i (get_or vs i [] ++ Text text ∷ [])) so_far.posted ∙ sym (records-more names so_far.rows row i text posts);
-      }
-
-  -- there are no more
-  pub read-end : (bytes : Option (List ℕ)) → IfSome bytes (SoFar known names number values a) → ReadRecord known a b false row
-      → IfSome bytes (λ text. PostAll names text values)
-  read-end None so_far read = tt
-  read-end (Some bytes) so_far read =
-      (so_far.rows, (reader_state a, so_far.left, so_far.reached, rows-end known a b row default_config so_far.left config so_far.source read), so_far.fine, so_far.posted)
-
-  -- one that can't be posted
-  pub read-fault : (bytes : Option (List ℕ)) (next : ℕ) (fault : TextFault) → IfSome bytes (SoFar known names number values a)
-      → ReadRecord known a b true row → next ≡ min (number + 1) (2 ^ 64 - 1) → HasFault names next row fault → IfSome bytes (λ text. Explains names text (Fault fault))
-  read-fault None next fault so_far read counted faulty = tt
-  read-fault (Some bytes) next fault so_far read counted faulty =
-      let more = rows-more known a b row default_config at.StartRecord (strip_bom bytes) so_far.left so_far.rows config so_far.source so_far.reached read in
-      explained names bytes fault (so_far.rows, row, reader_state b, more.0, more.2, so_far.fine, subst (λ n. HasFault names n row fault) (next-number number next (length so_far.rows) so_far.count counted) faulty)
+-- a record of two fields is these
+pub two-parts : (row : Row) (name field : List ℕ) → length row ≡ 2 → Some name ≡ field_at row 0 → Some field ≡ field_at row 1 → row ≡ name ∷ field ∷ []
+unfolding field_at
+two-parts [] name field two first second = absurd (omega (arith, two))
+two-parts (_ ∷ []) name field two first second = absurd (omega (arith, two))
+two-parts (_ ∷ _ ∷ _ ∷ rest) name field two first second = absurd (omega (arith, two))
+two-parts (one ∷ other ∷ []) name field two first second = cc

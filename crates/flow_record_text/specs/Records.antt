@@ -1,5 +1,5 @@
 -- Which values the records of a text post to each input, and which record is the first that can't be posted.
-use Rattle.std.specs.Prelude.{◌≡◌, ◌≢◌, ℕ, ◌+◌, ◌-◌, ◌^◌, ◌<◌, min, get_or, nat_eq, Bool, false, List, [], ◌∷◌, ◌++◌, length, map, position, cond, Option, Some, None, IsSome}
+use Rattle.std.specs.Prelude.{◌≡◌, ◌≢◌, ℕ, ◌+◌, ◌-◌, ◌^◌, ◌<◌, min, get_or, set, nat_eq, Bool, false, List, [], ◌∷◌, ◌++◌, length, map, position, cond, Option, Some, None, IsSome}
 use Rattle.std.specs.Borrow.{Bor}
 use Rattle.std.specs.List.{filter}
 use Rattle.std.specs.Str.{bytes_eq, IsUtf8}
@@ -129,3 +129,14 @@ posted_endings posted = map (λ input. input.ending) posted
 abbrev pub room : List (List Value) → ℕ
 room [] = 0
 room (values ∷ rest) = (2 ^ 64 - length values) + room rest
+
+-- a record posts one value more, and is counted
+abbrev pub Posts : List (List ℕ) → Row → ℕ → List (List Value) → ℕ → List (List Value) → Type 0
+Posts names row number values next after =
+    (i : ℕ) × (text : List ℕ) × PostsTo names row i text × (after ≡ set values i (get_or values i [] ++ Text text ∷ []))
+    × (next ≡ min (number + 1) (2 ^ 64 - 1))
+
+-- why the record behind so many is not posted
+abbrev pub IsNotPosted : List (List ℕ) → Row → ℕ → TextRefusal → Type 0
+IsNotPosted names row number (Fault fault) = HasFault names (min (number + 1) (2 ^ 64 - 1)) row fault
+IsNotPosted names row number Memory = Unit {0}

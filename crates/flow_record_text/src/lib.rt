@@ -5,6 +5,10 @@
 //! Tested: that good texts are read; that a reader that fails is told, at whichever call.
 #![tactic(auto)]
 
+mod fields;
+mod lines;
 mod records;
+mod rest;
+mod rows;
 
 pub use records::read_records;

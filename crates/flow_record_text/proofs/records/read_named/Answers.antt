@@ -1,67 +1,51 @@
-use Rattle.std.proofs.Common.{◌≡◌, ◌∙◌, rules, Bor, List, ℕ, length, ap, sym, inl, arith}
-use Rattle.std.proofs.lemmas.List.{length-map, length-replicate}
+use Rattle.std.proofs.Common.{◌≡◌, ℕ, Bor, List, length, drop, ap, sym, subst, rules}
+use Rattle.std.specs.Prelude.{Ok, Option}
+use Rattle.std.specs.Io.KnownBytes.{Keeps, prepend_known}
+use Rattle.std.specs.Io.Buffered.{reader_remaining}
+use Rattle.std.proofs.lemmas.List.{length-map}
 use Rattle.std.proofs.lemmas.Result.{err_from_is_err_and}
-use Rattle.csv.specs.Records.{fields_of}
-use Rattle.flow_link.specs.declared.posted.Posted.{Posted}
+use Rattle.std.specs.Prelude.{IfSome}
+use Rattle.csv.specs.Reading.{strip_bom}
 use Rattle.flow_record_text.specs.Records.{texts_of, posted_values}
-use Rattle.flow_record_text.specs.Field.{text_in}
-use Rattle.flow_record_text.proofs.RecordsPost.{read-start, read-more, read-end, read-fault, fault-of_records, posts-within, unexplained}
+use Rattle.flow_record_text.proofs.LinesRead.{BeginsAt, begins-lines, begins-all, ends-all, refuses-all, refuses-lines, of-ok, of-err}
+use Rattle.flow_record_text.proofs.records.read_named.Given.{Over}
+use Rattle.flow_record_text.proofs.records.read_named.Goals.{then-branch+in_ok-front, else-branch}
 use Rattle.flow_record_text.proofs.records.read_named.Goals as goal
 
-pub reading-init : goal.reading-init
-reading-init g c =
-    let made = c.record_reader-records.ensures in
-    let all : length (texts_of c.args.names.now) ≡ length c.args.names.now = length-map c.args.names.now (λ (name : Bor (List ℕ)). name.now) in
-    record {
-      takes = made.takes;
-      endings = c.in_ok-posted.ensures.endings;
-      so_far = read-start g.R.Read.remaining (texts_of c.args.names.now) (length c.args.names.now) _ c.record_reader-records.result (g.R.Read.remaining c.args.reader)
-          (sym all) c.in_ok-posted.ensures.values made.source made.state;
-    }
+begins : (g : Over) (c : goal.After-drop-places-2 g) → BeginsAt (texts_of c.args.names.now) c.if-branch.seen.number (posted_values c.if-branch.posted.items) (g.R.Read.remaining c.args.reader)
+    (prepend_known (drop 0 c.if-branch.front.items) (reader_remaining g.R.Read.remaining c.if-branch.reader))
+begins g c =
+    let names = texts_of c.args.names.now in
+    let count = sym (length-map c.args.names.now (λ (name : Bor (List ℕ)). name.now)) in
+    let none = c.in_ok-posted.ensures.values in
+    let kept = reader_remaining g.R.Read.remaining c.begins_plainly.new.reader in
+    let keeps = subst (λ (text : Option (List ℕ)). Keeps text kept) c.in_ok-reader.ensures.all c.in_ok-begins_plainly.ensures.keeps in
+    elim c.if-branch.branch [
+      | then-branch+in_ok-front w ↦
+          let plain = subst (λ (text : Option (List ℕ)). IfSome text (λ bytes. strip_bom bytes ≡ bytes)) c.in_ok-reader.ensures.all (c.in_ok-begins_plainly.ensures.plain (ap Ok w.if-branch.true)) in
+          rw (w.posted-is, w.seen-is, w.reader-is, w.front-is) (begins-lines names (length c.args.names.now) w.read_lines.new.seen.number (posted_values c.in_ok-posted.posted.items)
+          (posted_values w.read_lines.new.posted.items) (g.R.Read.remaining c.args.reader) kept (reader_remaining g.R.Read.remaining w.read_lines.new.reader) w.in_ok-front.front.items count none keeps plain w.in_ok-front.ensures.left)
+      | else-branch w ↦
+          rw (w.posted-is, w.seen-is, w.reader-is, w.front-is, c.new-front.ensures.items) (begins-all names (length c.args.names.now) (posted_values c.in_ok-posted.posted.items)
+          (g.R.Read.remaining c.args.reader) kept count none keeps)
+    ]
 
-pub returns-then-not-found-clause-values : goal.returns-then-not-found-clause-values
-returns-then-not-found-clause-values g c =
-    let kept = c.reading.invariant in
-    let read = rw c.if-not-found.true at c.in_ok-found.ensures.reads in
-    read-end g.R.Read.remaining (texts_of c.args.names.now) c.reading.number (posted_values c.reading.posted.items) c.reading.records c.read_row.new.records
-    (fields_of c.read_row.new.row) kept.takes.config (g.R.Read.remaining c.args.reader) kept.so_far read
+pub returns-in_err-front-clause-refused : goal.returns-in_err-front-clause-refused
+returns-in_err-front-clause-refused g c =
+    let p = err_from_is_err_and c.from_residual-in_err-front.result c.from_residual-in_err-front.ensures.1 in
+    let count = sym (length-map c.args.names.now (λ (name : Bor (List ℕ)). name.now)) in
+    let kept = reader_remaining g.R.Read.remaining c.begins_plainly.new.reader in
+    let keeps = subst (λ (text : Option (List ℕ)). Keeps text kept) c.in_ok-reader.ensures.all c.in_ok-begins_plainly.ensures.keeps in
+    let plain = subst (λ (text : Option (List ℕ)). IfSome text (λ bytes. strip_bom bytes ≡ bytes)) c.in_ok-reader.ensures.all (c.in_ok-begins_plainly.ensures.plain (ap Ok c.if-branch.true)) in
+    rw (p.1, p.2) (refuses-lines (texts_of c.args.names.now) (length c.args.names.now) (posted_values c.in_ok-posted.posted.items) (g.R.Read.remaining c.args.reader) kept
+    c.in_err-front.field-0.0 count c.in_ok-posted.ensures.values keeps plain c.in_err-front.ensures.refused)
 
-pub post-requires : goal.post-requires
-post-requires g c =
-    let count : length c.reading.posted.items ≡ length c.args.names.now =
-    sym (length-map c.reading.posted.items (λ (input : Posted). input.ending)) ∙ ap length c.reading.invariant.endings ∙ length-replicate _ _ in
-    let within = posts-within (texts_of c.args.names.now) (fields_of c.read_row.new.row) c.in-Ok.input (text_in c.in-Ok.text) c.in-Ok.ensures in
-    omega (arith, within, count, length-map c.args.names.now (λ (name : Bor (List ℕ)). name.now))
+pub returns-clause-values : goal.returns-clause-values
+returns-clause-values g c =
+    of-ok c.read_rows.result _ _ (λ all posts. ends-all (texts_of c.args.names.now) c.if-branch.seen.number (posted_values c.if-branch.posted.items) (posted_values all.items)
+    (g.R.Read.remaining c.args.reader) _ (begins g c) posts) c.read_rows.ensures.values
 
-pub returns-in-Err-clause-refused : goal.returns-in-Err-clause-refused
-returns-in-Err-clause-refused g c =
-    let kept = c.reading.invariant in
-    let read = rw c.if-not-found.false at c.in_ok-found.ensures.reads in
-    read-fault g.R.Read.remaining (texts_of c.args.names.now) c.reading.number (posted_values c.reading.posted.items) c.reading.records c.read_row.new.records
-    (fields_of c.read_row.new.row) kept.takes.config (g.R.Read.remaining c.args.reader) c.saturating_add-number.result c.in-Err.fault kept.so_far read (search rules) c.in-Err.ensures
-
-pub returns-in-Err-clause-of_records : goal.returns-in-Err-clause-of_records
-returns-in-Err-clause-of_records g c =
-    fault-of_records (texts_of c.args.names.now) c.saturating_add-number.result (fields_of c.read_row.new.row) c.in-Err.fault c.in-Err.ensures
-
-pub reading-preserved : goal.reading-preserved
-reading-preserved g c =
-    let kept = c.reading.invariant in
-    let read = rw c.if-not-found.false at c.in_ok-found.ensures.reads in
-    record {
-      takes = c.in_ok-found.ensures.takes c.if-not-found.false;
-      endings = c.in_ok-post-in-Ok.ensures.endings ∙ kept.endings;
-      so_far = read-more g.R.Read.remaining (texts_of c.args.names.now) c.reading.number (posted_values c.reading.posted.items) c.reading.records c.read_row.new.records
-          (fields_of c.read_row.new.row) kept.takes.config (g.R.Read.remaining c.args.reader) c.saturating_add-number.result c.in-Ok.input (text_in c.in-Ok.text) (posted_values c.post.new.posted.items)
-          kept.so_far read c.in-Ok.ensures c.in_ok-post-in-Ok.ensures.values (search rules);
-    }
-
-pub returns-in_err-found-clause-refused : goal.returns-in_err-found-clause-refused
-returns-in_err-found-clause-refused g c =
-    let p = err_from_is_err_and c.from_residual-in_err-found.result c.from_residual-in_err-found.ensures.1 in
-    rw (p.1, p.2) (unexplained (texts_of c.args.names.now) (g.R.Read.remaining c.args.reader) c.in_err-found.field-0.0 c.in_err-found.ensures.refused)
-
-pub returns-in_err-post-in-Ok-clause-refused : goal.returns-in_err-post-in-Ok-clause-refused
-returns-in_err-post-in-Ok-clause-refused g c =
-    let p = err_from_is_err_and c.from_residual-in_err-post-in-Ok.result c.from_residual-in_err-post-in-Ok.ensures.1 in
-    rw (p.1, p.2) (unexplained (texts_of c.args.names.now) (g.R.Read.remaining c.args.reader) c.in_err-post-in-Ok.field-0.0 (inl c.in_err-post-in-Ok.ensures.refused))
+pub returns-clause-refused : goal.returns-clause-refused
+returns-clause-refused g c =
+    of-err c.read_rows.result _ _ (λ refusal why. refuses-all (texts_of c.args.names.now) c.if-branch.seen.number (posted_values c.if-branch.posted.items)
+    (g.R.Read.remaining c.args.reader) _ refusal (begins g c) why) c.read_rows.ensures.refused

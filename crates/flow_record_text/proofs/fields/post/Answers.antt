@@ -3,7 +3,7 @@ use Rattle.std.specs.Result.{is_ok}
 use Rattle.flow_value.specs.declared.value.Value.TheVariants.{Text}
 use Rattle.flow_record_text.specs.Field.{text_in}
 use Rattle.flow_record_text.proofs.RecordsPost.{set-values, set-endings, room-less}
-use Rattle.flow_record_text.proofs.records.post.Goals as goal
+use Rattle.flow_record_text.proofs.fields.post.Goals as goal
 
 pub returns-clause-values : goal.returns-clause-values
 returns-clause-values c =

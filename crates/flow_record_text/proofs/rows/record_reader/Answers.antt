@@ -1,5 +1,5 @@
 use Rattle.std.proofs.Common.{◌∙◌, inr}
-use Rattle.flow_record_text.proofs.records.record_reader.Goals as goal
+use Rattle.flow_record_text.proofs.rows.record_reader.Goals as goal
 
 pub returns-clause-takes : goal.returns-clause-takes
 returns-clause-takes g c =

@@ -1,5 +1,5 @@
 use Rattle.std.proofs.Common.{◌∙◌, inl}
-use Rattle.flow_record_text.proofs.records.read_row.Goals as goal
+use Rattle.flow_record_text.proofs.rows.read_row.Goals as goal
 
 pub returns-in-Ok-clause-reads : goal.returns-in-Ok-clause-reads
 returns-in-Ok-clause-reads g c = c.in-Ok.ensures.reads c.requires.trim c.requires.ready
