@@ -6,7 +6,8 @@ import shutil
 import tempfile
 
 from accept.builds import SECONDS, keep_log
-from accept.examples import ALONE, OPEN, SEVERAL, names_of, wanted_of
+from accept.examples import ALONE, OPEN, SEVERAL, names_of, text_of, wanted_of
+from accept.rows import write_rows
 from accept.shell import run
 
 # What failing.c says on standard error where it has a call fail.
@@ -39,8 +40,12 @@ TABLE = "crates/refusals/CALLS.md"
 AS_BEFORE = re.compile(r"(\S+): refused, as before")
 GIVES_UP = r"memory is refused again and again|out of memory|allocation failed"
 
-# A refusal of a text: its number and name, and where it is.
-REFUSAL = re.compile(r"flow_run: [1-9]\d?( [A-Z]\w+)( \d+ [A-Z]\w+)?( (top|(block|link|record) \d+))?\n")
+# The refusals of a text, by which text it is: the number and the name, and where it is. A network that lacks something may be a network
+# without an input.
+REFUSALS = {
+    "toml": re.compile(r"flow_run: ([1-8] [A-Z]\w+( \d+ [A-Z]\w+)?( (top|(block|link) \d+))?|11 UnknownInput record \d+)\n"),
+    "csv": re.compile(r"flow_run: (9 Csv|10 NotUtf8|11 UnknownInput) record \d+\n"),
+}
 
 
 def what_lacks():
@@ -69,10 +74,9 @@ def shown(number, ended):
     return [f"call {number}: status {ended.status}", ended.out, ended.err]
 
 
-def fail_each(part, copy, name, workers, kind):
-    """A run of an example comes to its report, or says why not. Then nothing goes out after the call that failed."""
-    command = f"out/flow_run.unproved examples/{name}.toml {workers} < examples/{name}.csv"
-    report, status = wanted_of(copy, name)
+def fail_each(part, copy, command, wanted, kind):
+    """A run comes to its report, or says why not. Then nothing goes out after the call that failed."""
+    command, (report, status) = f"out/flow_run.unproved {command}", wanted
     has_failed, wrong = False, []
     for number, ended in each_failing(copy, kind, command):
         is_told = (ended.status, ended.err) == TOLD.get(kind)
@@ -99,12 +103,24 @@ def fail_all(part, copy):
     if not build_failing(part, copy):
         return
     for name in names_of(copy):
+        example, wanted = f"examples/{name}.toml %s < examples/{name}.csv", wanted_of(copy, name)
         for kind in ("growth", "read", "write", "interrupt", "short"):
-            fail_each(part, copy, name, ALONE, kind)
+            fail_each(part, copy, example % ALONE, wanted, kind)
         if name not in OPEN:
-            fail_each(part, copy, name, SEVERAL, "growth")
+            fail_each(part, copy, example % SEVERAL, wanted, "growth")
+    for row in write_rows(copy):
+        fail_row(part, copy, row)
     for words in FLOW:
         fail_flow(part, copy, words)
+
+
+def fail_row(part, copy, row):
+    """The same for a small run with one worker and with two, also where its network and records come in one stream."""
+    wanted = text_of(copy, row["report"]), 0
+    for kind in ("read", "write"):
+        for workers in (1, 2):
+            fail_each(part, copy, f"{row['toml']} {workers} < {row['csv']}", wanted, kind)
+        fail_each(part, copy, f"< {row['both']}", wanted, kind)
 
 
 def build(part, copy, logs, crate):
@@ -177,25 +193,30 @@ def broken(whole):
         yield f"ff at {place}", whole[:place] + b"\xff" + whole[place + 1 :]
 
 
-def is_answered(ended):
-    """Whether a run comes to a report, or is refused with one line and writes nothing."""
+def is_answered(ended, suffix):
+    """Whether a run comes to a report, or is refused for this text with one line and writes nothing."""
     if ended.status in (0, 1):
         return not ended.err and ended.out.endswith("quiet\n")
-    return ended.status == 2 and not ended.out and REFUSAL.fullmatch(ended.err)
+    return ended.status == 2 and not ended.out and REFUSALS[suffix].fullmatch(ended.err)
+
+
+def break_text(part, copy, room, paths, suffix):
+    """Runs over these files of which one is broken in each way."""
+    with open(os.path.join(copy, paths[suffix]), "rb") as file:
+        whole = file.read()
+    read = {**paths, suffix: os.path.join(room, f"broken.{suffix}")}
+    wrong = []
+    for how, text in broken(whole):
+        with open(read[suffix], "wb") as file:
+            file.write(text)
+        ended = run(f"out/flow_run.unproved {read['toml']} {ALONE} < {read['csv']}", copy)
+        wrong += [] if is_answered(ended, suffix) else [how, *shown(0, ended)]
+    part.count(not wrong, paths[suffix], wrong)
 
 
 def break_texts(part, copy):
+    examples = [{suffix: f"examples/{name}.{suffix}" for suffix in REFUSALS} for name in BROKEN]
     with tempfile.TemporaryDirectory(dir=os.path.join(copy, "out")) as room:
-        for name in BROKEN:
-            for suffix in ("toml", "csv"):
-                paths = {kind: f"examples/{name}.{kind}" for kind in ("toml", "csv")}
-                with open(os.path.join(copy, paths[suffix]), "rb") as file:
-                    whole = file.read()
-                paths[suffix] = os.path.join(room, f"broken.{suffix}")
-                wrong = []
-                for how, text in broken(whole):
-                    with open(paths[suffix], "wb") as file:
-                        file.write(text)
-                    ended = run(f"out/flow_run.unproved {paths['toml']} {ALONE} < {paths['csv']}", copy)
-                    wrong += [] if is_answered(ended) else [how, *shown(0, ended)]
-                part.count(not wrong, f"examples/{name}.{suffix}", wrong)
+        for paths in [*examples, *write_rows(copy)]:
+            for suffix in REFUSALS:
+                break_text(part, copy, room, paths, suffix)
