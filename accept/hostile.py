@@ -29,6 +29,10 @@ FLOW = (
 )
 UNPRINTED = (5, "flow: standard output failed\n")
 
+# More calls of it, and what it says where memory is out: its help, and words and files that it refuses.
+MORE_OF_FLOW = ("--help", "fly", "split 0 records.csv", "check nowhere.toml", "draw \"$(printf 'a\\377')\"")
+STARVED = (4, "", "flow: memory\n")
+
 # The lines of the example that say in which way memory was refused to its crew.
 WAYS = {"refused: the network came back", "refused: its parts came back"}
 
@@ -112,6 +116,8 @@ def fail_all(part, copy):
         fail_row(part, copy, row)
     for words in FLOW:
         fail_flow(part, copy, words)
+    for words in FLOW + MORE_OF_FLOW:
+        starve_flow(part, copy, words)
 
 
 def fail_row(part, copy, row):
@@ -121,6 +127,17 @@ def fail_row(part, copy, row):
         for workers in (1, 2):
             fail_each(part, copy, f"{row['toml']} {workers} < {row['csv']}", wanted, kind)
         fail_each(part, copy, f"< {row['both']}", wanted, kind)
+
+
+def starve_flow(part, copy, words):
+    """Where a growth is refused to a command, it says so and prints nothing, or ends as it does with memory."""
+    command = f"out/flow.unproved {words}"
+    whole, is_starved, wrong = run(command, copy), False, []
+    for number, ended in each_failing(copy, "growth", command):
+        how = ended.status, ended.out, ended.err
+        is_starved = is_starved or how == STARVED
+        wrong += [] if how in (STARVED, (whole.status, whole.out, whole.err)) else shown(number, ended)
+    part.count(not wrong and is_starved, f"{command}, growth", wrong)
 
 
 def build(part, copy, logs, crate):
