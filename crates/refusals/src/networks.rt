@@ -18,7 +18,7 @@ pub(crate) const ENOUGH: u64 = 10_000;
 /// A network, with what is posted to its inputs, and what its report has.
 #[derive(Clone, Copy)]
 pub(crate) enum Example {
-    /// Three texts are read as numbers.
+    /// Three texts are read as numbers, two at a time.
     ParseThree,
     /// A join that reserves takes only whole pairs.
     ReservingLeaves,
@@ -31,7 +31,7 @@ const PARSE_THREE: &str = r#"
 format = 1
 block = [
     { name = "in", kind = "buffer", input = true },
-    { name = "t", kind = "transform", work = ["int"] },
+    { name = "t", kind = "transform", lanes = 2, work = ["int"] },
     { name = "out", kind = "action", work = [] },
 ]
 link = [{ from = "in", to = "t", propagate = true }, { from = "t", to = "out", propagate = true }]
