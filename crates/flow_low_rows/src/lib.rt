@@ -17,8 +17,6 @@ mod driven;
 #[cfg(test)]
 mod hand_over;
 #[cfg(test)]
-mod memory;
-#[cfg(test)]
 mod receiver;
 #[cfg(test)]
 mod receiving;

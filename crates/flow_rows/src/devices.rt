@@ -1,10 +1,10 @@
-//! Readers and writers that fail, and memory that runs out.
+//! Readers and writers that fail.
 use crate::told::{ran, told_by};
 use flow_link::PlanFault;
 use flow_net::Settled;
 use flow_run::{Ran, RunRefusal, write_refusal};
-use flow_text::{TextFault, TextRefusal, read_plan};
-use flow_trial::{ENOUGH, is_refusal, is_report};
+use flow_text::TextFault;
+use flow_trial::{ENOUGH, is_refusal};
 use std::alloc::Global;
 use std::io;
 use std::io::{Read, Write};
@@ -58,11 +58,6 @@ link = [{from = "in", to = "out", propagate = true}]
 
 const TWO: &[u8] = b"in,a\nin,b\n";
 
-const REPORT: &[&str] = &[
-    r#"block in done ; input [] ; port 0 ["a","b"] ; held 0 [] ; link 0 ["a","b"] ; left []"#,
-    r#"block out done ; port 0 ["a","b"] ; held 0 [] ; record ["a","b"] ; quiet"#,
-];
-
 const COMPLETE: Ran = Ran {
     settled: Settled::Quiet,
     complete: true,
@@ -110,25 +105,5 @@ fn a_refusal_tells_of_a_failing_writer(rt: HostRuntime) {
     for calls in 0..calls_of_line - enough.calls.min(calls_of_line) {
         let answer = write_refusal(&refusal, &mut FailingWriter { calls });
         assert!(rt; answer == Err(TextFault::Write), "at call {calls}");
-    }
-}
-
-// The tests from here on hold whichever allocation fails: an answer is the right one or out of memory.
-#[test]
-fn networks_without_memory(rt: HostRuntime) {
-    match read_plan(rt.alloc(), PAIR) {
-        Ok(plan) => assert!(rt; plan.block_count() == 2 && plan.link_count() == 2),
-        Err(refusal) => assert!(rt; refusal == TextRefusal::Memory),
-    }
-}
-
-// The report is written to a list in memory, and where that cannot grow the writer has failed.
-#[test]
-fn runs_without_memory(rt: HostRuntime) {
-    let mut written = Vec::new(rt.alloc());
-    match ran(&rt, rt.alloc(), PAIR, TWO, &mut written, 1, ENOUGH) {
-        Ok(ran) => assert!(rt; ran == COMPLETE && is_report(written.as_slice(), REPORT)),
-        Err(RunRefusal::Memory) => assert!(rt; written.is_empty()),
-        Err(refusal) => assert!(rt; refusal == RunRefusal::Text(TextFault::Write)),
     }
 }

@@ -1,7 +1,7 @@
 //! Values, functions and drafts.
 use crate::again::{Stop, again, check};
 use flow_link::{BlockDef, BlockKind, Draft, LinkDef, Plan, PlanRefusal, plan_check};
-use flow_value::{Parcel, Steps, StepsError, Text, Value, Work, WorkFault};
+use flow_value::{Parcel, Row, Steps, StepsError, Text, Value, Work, WorkFault};
 use std::alloc::{AllocError, Global};
 
 /// A text that is too long to stand without memory of its own.
@@ -31,25 +31,41 @@ pub(crate) fn values(rt: &impl Print, alloc: Global) -> Result<(), Stop> {
 }
 
 fn read(rt: &impl Print, alloc: Global) -> Result<Steps, Stop> {
-    let words = ["int", "add 1", "text"];
+    let words = ["repeat 2", "field 1", "int", "add 1", "text", "repeat 2"];
     again!(rt, "Steps::read", Steps::read(alloc, &words), StepsError::Memory => true)
 }
 
 fn run(rt: &impl Print, alloc: Global, steps: &Steps, value: &Value) -> Result<Vec<Value>, Stop> {
-    again!(rt, "Work::run", steps.run(alloc, value), WorkFault::Memory => is_text(value, "41"))
+    again!(rt, "Work::run", steps.run(alloc, value), WorkFault::Memory => is_argument(value))
 }
 
 fn copy_of(rt: &impl Print, alloc: Global, steps: &Steps) -> Result<Steps, Stop> {
     again!(rt, "Work::copy", steps.copy(alloc), only _ => true)
 }
 
+/// A row of two texts, of which the function goes through the second.
+fn argument(alloc: Global) -> Result<Value, Stop> {
+    let first = Text::from_str(alloc, "1")?;
+    let second = Text::from_str(alloc, "22")?;
+    let texts = vec![in alloc; Value::Text(first), Value::Text(second)]?;
+    match Row::new(alloc, texts) {
+        Ok(row) => Ok(Value::Row(row)),
+        Err(_) => Err(Stop::Memory),
+    }
+}
+
+fn is_argument(value: &Value) -> bool {
+    matches!(value.as_items(), Some([first, second]) if is_text(first, "1") && is_text(second, "22"))
+}
+
 /// A function is read, copied and run.
 pub(crate) fn functions(rt: &impl Print, alloc: Global) -> Result<(), Stop> {
     let steps = read(rt, alloc)?;
     let copy = copy_of(rt, alloc, &steps)?;
-    let value = Value::Text(Text::from_str(alloc, "41")?);
+    let value = argument(alloc)?;
     let given = run(rt, alloc, &copy, &value)?;
-    let is_one_more = matches!(given.as_slice(), [only] if is_text(only, "42"));
+    let is_one_more =
+        matches!(given.as_slice(), [first, _, _, last] if is_text(first, "23") && is_text(last, "23"));
     check(rt, "Work::run", is_one_more);
     Ok(())
 }
