@@ -70,7 +70,7 @@ function read_argument(name, at,    number) {
     number = ++count[name]
     own[name, number] = unquoted(token[at + 3])
     form[name, number] = token[at + 8]
-    if (form[name, number] !~ /^(Needed|Optional|Parts|Words|SomeWords|Named|Flag)$/) has_others[name] = 1
+    if (form[name, number] !~ /^(Needed|Optional|Parts|Words|SomeWords|Named|Repeated|Flag)$/) has_others[name] = 1
     for (at += 9; token[at] != ")" && at < last; at++)
         if (token[at] ~ /^"/) told[name, number] = told[name, number] (told[name, number] == "" ? "" : " ") unquoted(token[at])
 }
@@ -91,6 +91,7 @@ function shown_as(kind, name, value) {
     if (kind == "Words") return "[" value "..]"
     if (kind == "SomeWords") return value ".."
     if (kind == "Named") return "[--" name " " value "]"
+    if (kind == "Repeated") return "[--" name " " value "].."
     if (kind == "Flag") return "[--" name "]"
     return value
 }
@@ -118,7 +119,7 @@ function judged_of(name,    at, word, are_plain, why, number) {
         } else {
             number = option_of(name, word)
             why = number ? given_option(name, number, word, ARGV[at + 1], at + 1 < ARGC) : 1
-            if (number && form[name, number] == "Named" && word !~ /=/) at++
+            if (number && takes_word(name, number) && word !~ /=/) at++
         }
         if (why) return refused(name, why)
     }
@@ -128,7 +129,7 @@ function judged_of(name,    at, word, are_plain, why, number) {
 # Puts a word in the next place that takes one, and answers what is wrong with that.
 function placed(name, word,    number) {
     for (number = 1; number <= count[name]; number++) {
-        if (form[name, number] ~ /^(Named|Flag)$/) continue
+        if (form[name, number] ~ /^(Named|Repeated|Flag)$/) continue
         if (has[number] && form[name, number] !~ /Words$/) continue
         has[number] = 1
         return form[name, number] == "Parts" && !is_in_range(word) ? told[name, number] " is a number from " least " to " most : ""
@@ -144,19 +145,24 @@ function is_in_range(word) {
 function option_of(name, word,    number) {
     sub(/=.*/, "", word)
     for (number = 1; number <= count[name]; number++)
-        if (form[name, number] ~ /^(Named|Flag)$/ && word == "--" own[name, number]) return number
+        if (form[name, number] ~ /^(Named|Repeated|Flag)$/ && word == "--" own[name, number]) return number
     return 0
 }
 
 # Notes an option, and answers whether it is wrong: it is there already, lacks its word, has one without need, or stands beside what it
 # never stands beside.
 function given_option(name, number, word, following, is_followed,    other) {
-    if (has[number]++) return 1
-    if (form[name, number] == "Named") return word !~ /=/ && (!is_followed || following ~ /^-./)
+    if (has[number]++ && form[name, number] != "Repeated") return 1
+    if (takes_word(name, number)) return word !~ /=/ && (!is_followed || following ~ /^-./)
     if (word ~ /=/) return 1
     for (other = 1; other <= count[name]; other++)
         if (has[other] && other != number && (excludes(name, number, other) || excludes(name, other, number))) return 1
     return 0
+}
+
+# Whether a word follows this option.
+function takes_word(name, number) {
+    return form[name, number] ~ /^(Named|Repeated)$/
 }
 
 function excludes(name, number, other) {
@@ -170,11 +176,13 @@ function lacks(name,    number) {
     return 0
 }
 
-# An option of `split` alone is of no use without another.
+# Some options are of no use without another.
 function unpaired(name,    number, given) {
     for (number = 1; number <= count[name]; number++) if (has[number]) given[own[name, number]] = 1
     if ("align" in given && !("by-key" in given)) return "refused --align is for --by-key"
     if ("unmatched" in given && !("align" in given)) return "refused --unmatched is for --by-key --align"
+    if (name == "feed" && "force" in given && !("bad" in given)) return "refused --force is for --bad"
+    if (name == "results" && "force" in given && !("files" in given)) return "refused --force is for --files"
     return "taken"
 }
 
