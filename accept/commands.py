@@ -41,7 +41,7 @@ PREPARED = [
     # One message is missing that a block took, though it crossed the link to it.
     "sed '/^block order_numbers/,/^held/s/,\"1002\"//' import.report > damaged.report",
     # Rows with and without a bad one, and orders with other columns.
-    r"printf 'id,amount\n1,10\n2\n3,\"30\"\r\n' > rows.csv",
+    r"""printf 'id,amount\n1,10\n2\n3,"30"\r\n' > rows.csv""",
     r"printf '1;10\n' > parted.csv; mkdir tables; touch tables/order_numbers.csv",
     # More than there is memory for, where there is little.
     "truncate -s 1G large.toml",
