@@ -81,8 +81,10 @@ fn answer<R: Files + Input + Print + Eprint + AllocGlobal>(
         Ok(matches) => dispatch(rt, &matches, coloured),
         Err(error) => match error.kind() {
             ErrorKind::DisplayHelp | ErrorKind::DisplayVersion => {
-                write!(io::writer(rt), "{error}")?;
-                Ok(0)
+                match write!(io::writer(rt), "{error}") {
+                    Ok(()) => Ok(0),
+                    Err(error) => Err(Stop::unprinted(&error)),
+                }
             }
             ErrorKind::OutOfMemory => Err(Stop::from(AllocError)),
             _ => Err(refusal_of(rt.alloc(), words)?),

@@ -28,6 +28,14 @@ impl<W: Write> Write for UntilFailed<W> {
     }
 }
 
+/// Prints a line.
+pub fn print_line<R: Print>(rt: &R, line: &str) -> Result<(), Stop> {
+    match rt.println(line) {
+        Ok(()) => Ok(()),
+        Err(error) => Err(Stop::unprinted(&error)),
+    }
+}
+
 /// A buffer in front of standard output.
 pub fn output<R: Print + AllocGlobal>(
     rt: &R,

@@ -1,4 +1,5 @@
 //! The files that parts are written to.
+use crate::output::print_line;
 use crate::stop::Stop;
 use crate::whole_files::{Rules, write_whole};
 use std::alloc::{AllocError, Global};
@@ -31,7 +32,7 @@ impl PartFiles<'_> {
         }
         for (path, piece) in paths.iter().zip(pieces) {
             write_whole(rt, path.as_str(), piece)?;
-            rt.println(path.as_str())?;
+            print_line(rt, path.as_str())?;
         }
         Ok(())
     }

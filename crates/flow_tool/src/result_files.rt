@@ -1,4 +1,5 @@
 //! The files that results are written to, one for each action.
+use crate::output::print_line;
 use crate::stop::Stop;
 use crate::whole_files::{Rules, write_whole};
 use flow_outcome::{ActionResults, ResultsForm};
@@ -25,7 +26,7 @@ impl ResultFiles<'_> {
         let paths = self.free_paths(rt, results)?;
         for (path, action) in paths.iter().zip(results) {
             write_whole(rt, path.as_str(), &action.text)?;
-            rt.println(path.as_str())?;
+            print_line(rt, path.as_str())?;
         }
         Ok(())
     }

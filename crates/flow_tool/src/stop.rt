@@ -53,6 +53,11 @@ impl Stop {
         }
     }
 
+    /// Standard output failed with this error.
+    pub fn unprinted(error: &io::Error) -> Stop {
+        Stop::no_output().unless_memory(error)
+    }
+
     /// What was asked for can't be done, and the program ends with this status.
     pub fn with_status(status: u8, why: &impl Display) -> Stop
         ensures { result.status ≡ status }
