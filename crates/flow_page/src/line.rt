@@ -8,8 +8,8 @@ use flow_reading::{BlockReport, Report};
 use std::io;
 use std::io::Write;
 
-/// How many characters of a line a picture shows at most.
-const MOST_SHOWN: usize = 40;
+/// How many characters of a line a picture shows at most: as many as the name of a block may have.
+const MOST_SHOWN: usize = 64;
 
 /// A line in the box of a block.
 #[derive(Clone, Copy)]
