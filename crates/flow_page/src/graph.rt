@@ -4,7 +4,7 @@ use flow_outcome::Outline;
 use std::alloc::{AllocError, Global};
 
 /// The height of a spot where a link passes.
-const PASS_HEIGHT: usize = 14;
+const PASS_HEIGHT: usize = 2;
 
 /// A place for a block, or for a link that passes a layer. Lengths are in pixels.
 #[derive(Clone, Copy)]
