@@ -29,7 +29,7 @@ a:hover .box,a:focus .box{stroke-width:3}
 .name{font-weight:700}
 .options,.port{fill:var(--faint)}
 .port{font-size:11px}
-.label{font-size:11px;paint-order:stroke;stroke:var(--ground);stroke-width:3px;stroke-linejoin:round}
+.label{font-size:11px;paint-order:stroke;stroke:var(--ground);stroke-width:2px;stroke-linejoin:round}
 .link{fill:none;stroke:var(--link);stroke-width:1.5}
 .link:hover{stroke-width:3}
 .loose{stroke-dasharray:5 4}

@@ -11,7 +11,7 @@ use std::io::Write;
 /// How far the text beside a link is from its block, and from the link.
 const LABEL_LEFT: usize = 5;
 
-const LABEL_ABOVE: usize = 3;
+const LABEL_ABOVE: usize = 4;
 
 /// Where the number of a port stands in a box.
 const PORT_LEFT: usize = 5;
