@@ -28,6 +28,10 @@ const STATES: &[u8] =
 
 const STROKES: &[u8] = b"A dashed link hands no end on.</p>\n";
 
+/// What the picture is in. It may be larger than that, so arrow keys move it too.
+const PICTURE: &[u8] =
+    b"<div class=\"picture\" role=\"region\" aria-label=\"The network\" tabindex=\"0\">\n";
+
 /// Writes a page with this title: a network as a picture, and each of its blocks. With a report of it the page tells first why
 /// the run ended so; each block has its state in colour, how many messages it took, holds, recorded and left, and the
 /// first hundred of them; and each link has how many crossed it.
@@ -51,7 +55,7 @@ pub fn write_page<W: Write>(
         write_why(writer, outline, report)?;
     }
     write_key(writer, report.is_some())?;
-    writer.write_all(b"<div class=\"picture\" tabindex=\"0\">\n")?;
+    writer.write_all(PICTURE)?;
     write_picture(writer, outline, report, &layout, &mut line)?;
     writer.write_all(b"</div>\n<h2>Blocks</h2>\n")?;
     write_blocks(writer, outline, report)?;

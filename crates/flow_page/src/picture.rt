@@ -27,10 +27,7 @@ pub(crate) fn write_picture<W: Write>(
 ) -> io::Result<()> {
     let width = layout.width();
     let height = layout.height();
-    write!(
-        writer,
-        "<svg role=\"img\" width=\"{width}\" height=\"{height}\" "
-    )?;
+    write!(writer, "<svg width=\"{width}\" height=\"{height}\" ")?;
     writeln!(writer, "viewBox=\"0 0 {width} {height}\">")?;
     writer.write_all(TIP)?;
     write_arrows(writer, outline, report, layout)?;
