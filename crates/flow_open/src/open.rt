@@ -186,6 +186,47 @@ fn run_parts<
     if !are_matched {
         return Ended::Unmatched;
     }
+    match turn_and_call(
+        rt, alloc, board, tasks, workers, entries, senders, exits, receivers,
+    ) {
+        Ok(()) => Ended::AtRest,
+        Err(AllocError) => Ended::OutOfMemory,
+    }
+}
+
+/// Turns the tasks on so many threads, and calls entries and exits meanwhile.
+fn turn_and_call<
+    'a,
+    W: Runs + Send + Sync,
+    S: Iterator<Item = Value>,
+    F: FnMut(Value) + Send + Drop,
+    R: Threads + Wait + Clock + Sync,
+>(
+    rt: &'a R,
+    alloc: Global,
+    board: &'a Board<W>,
+    tasks: &mut Vec<Task<W>>,
+    workers: usize,
+    entries: &mut Vec<Entry<W>>,
+    senders: &mut Vec<Sender<S>>,
+    exits: &mut Vec<Exit<W>>,
+    receivers: &mut Vec<F>,
+) -> Result<(), AllocError>
+    requires workers { (0 < workers) × (workers ≤ 64) }
+    requires can_next { (state : S) → S.can_next state }
+    requires can_take { (state : F) (value : Value) → F.pre state value }
+    requires tasks_of { AllTasksOf board.now tasks.old.items }
+    requires entries_of { AllEntriesOf board.now entries.old.items }
+    requires exits_of { AllExitsOf board.now exits.old.items }
+    ensures tasks_back { ComeBack board.now tasks.old.items tasks.new.items }
+    ensures entries_of { AllEntriesOf board.now entries.new.items }
+    ensures exits_of { AllExitsOf board.now exits.new.items }
+    ensures entries_are { map entry_number entries.new.items ≡ map entry_number entries.old.items }
+    ensures exits_are { map exit_number exits.new.items ≡ map exit_number exits.old.items }
+    ensures sends { EachSends S.next_gives entries.old.items senders.old.items entries.new.items senders.new.items }
+    ensures takes { EachTakes (λ state value next. F.step state value tt next) exits.old.items receivers.old.items exits.new.items
+        receivers.new.items }
+{
     let calm = &Calm::new();
     tasks_cross::<W>();
     boards_are_shared::<W>();
@@ -205,10 +246,7 @@ fn run_parts<
                 exits.exit.now.items receivers.exit.now.items }
         { call_all(rt, alloc, board, entries, senders, exits, receivers, calm) },
     );
-    match went {
-        Ok(()) => Ended::AtRest,
-        Err(AllocError) => Ended::OutOfMemory,
-    }
+    went
 }
 
 /// Receives in a thread, and sends in this one.
