@@ -1,39 +1,59 @@
 //! What a record comes to when it is run alone.
+ghost use Rattle.std.specs.Prelude.{◌≡◌, IfOk};
+ghost use Rattle.flow_link.specs.Planned.{layout_of};
+
 use crate::aside::Aside;
-use crate::copy::copy_plan;
-use crate::post::{read_fields, start_alone};
-use csv::ByteRecord;
+use crate::post::{plan_of, read_fields, start_alone};
 use flow_link::{LinkId, LinkSource, LinkTarget, Plan};
 use flow_net::{Net, NetFault, Settled, State};
+use flow_pieces::{PieceFault, Records};
+use flow_text::{TextFault, TextRefusal};
 use flow_value::Steps;
-use std::alloc::{AllocError, Global};
+use std::alloc::Global;
 
-/// Why this record is set aside, if it is: it is refused, or a block faults when no other record is there.
-pub fn run_alone<'p>(
+/// Why the record of this text is set aside, if it is: it is refused, or a block faults when no other record is there. The plan
+/// comes back.
+pub(crate) fn run_alone(
     alloc: Global,
-    plan: &'p Plan<Steps>,
-    row: &ByteRecord,
+    plan: Plan<Steps>,
+    record: &[u8],
     limit: u64,
-) -> Result<Option<Aside<'p>>, AllocError> {
-    let (name, text) = match read_fields(plan, row) {
+) -> Result<(Plan<Steps>, Option<Aside>), TextRefusal>
+    ensures same_plan { IfOk result (λ ran. layout_of ran.0 ≡ layout_of plan) }
+{
+    let mut walk = Records::new(alloc, record);
+    if let Err(fault) = walk.advance() {
+        return Err(refusal_of(fault));
+    }
+    let fields = read_fields(&plan, walk.row());
+    let (name, text) = match fields {
         Ok(found) => found,
-        Err(aside) => return Ok(Some(aside)),
+        Err(aside) => return Ok((plan, Some(aside))),
     };
-    let mut net = start_alone(alloc, copy_plan(alloc, plan)?, name, text)?;
-    match net.settle(alloc, limit) {
-        Ok(Settled::Quiet) => Ok(fault_in(plan, &net)),
-        Ok(Settled::Stopped) => Ok(Some(Aside::Stopped)),
-        Err(NetFault::Ids) => Ok(Some(Aside::Ids)),
-        Err(NetFault::NotEnabled | NetFault::Memory) => Err(AllocError),
+    let mut net = start_alone(alloc, plan, name, text)?;
+    let aside = match net.settle(alloc, limit) {
+        Ok(Settled::Quiet) => fault_in(&net),
+        Ok(Settled::Stopped) => Some(Aside::Stopped),
+        Err(NetFault::Ids) => Some(Aside::Ids),
+        Err(NetFault::NotEnabled | NetFault::Memory) => return Err(TextRefusal::Memory),
+    };
+    Ok((plan_of(net), aside))
+}
+
+/// What it comes to that a record can't be read.
+pub(crate) fn refusal_of(fault: PieceFault) -> TextRefusal {
+    match fault {
+        PieceFault::Memory => TextRefusal::Memory,
+        PieceFault::Read | PieceFault::Fields(_) => TextRefusal::Fault(TextFault::Read),
     }
 }
 
 /// The first block that faulted by itself, and its fault.
-fn fault_in<'p>(plan: &'p Plan<Steps>, net: &Net<Steps>) -> Option<Aside<'p>> {
-    for number in 0..plan.block_count() {
+fn fault_in(net: &Net<Steps>) -> Option<Aside> {
+    for number in 0..net.plan().block_count() {
         if let Some(fault) = fault_of(net, number) {
             if !was_handed_on(net, number) {
-                return Some(Aside::Faulted(plan.block(number).name.as_str(), fault));
+                return Some(Aside::Faulted(number, fault));
             }
         }
     }
