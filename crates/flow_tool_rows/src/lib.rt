@@ -35,6 +35,8 @@ mod results;
 #[cfg(test)]
 mod sifted;
 #[cfg(test)]
+mod sifted_alone;
+#[cfg(test)]
 mod told;
 #[cfg(test)]
 mod traces;
