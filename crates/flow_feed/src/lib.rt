@@ -21,3 +21,4 @@ mod stand;
 pub use asked::{Asked, Sent, Wanted};
 pub use fault::{BadRow, ColumnFault, FeedFault, RowFault};
 pub use feeding::{Fed, OnBad, feed};
+pub use stand::{Stand, after};

@@ -6,7 +6,7 @@ ghost use Rattle.flow_feed.specs.Stands.{state_of, state_after};
 
 /// Where a reader of CSV stands.
 #[derive(Clone, Copy, PartialEq, Eq)]
-pub(crate) enum Stand {
+pub enum Stand {
     /// In front of a row.
     StartRecord,
     /// In front of a field of a row.
@@ -22,7 +22,7 @@ pub(crate) enum Stand {
 }
 
 /// Where a reader stands behind one more byte.
-pub(crate) fn after(stand: Stand, byte: u8) -> Stand
+pub fn after(stand: Stand, byte: u8) -> Stand
     ensures { state_of result ≡ state_after (state_of stand) byte }
 {
     match stand {
@@ -81,7 +81,7 @@ pub(crate) fn is_line_end(byte: u8) -> bool
 
 impl Stand {
     /// Whether this is between two rows.
-    pub(crate) fn is_between(self) -> bool
+    pub fn is_between(self) -> bool
         ensures { result ≡ not (machine.ends_at_end (state_of self)) }
     {
         match self {
