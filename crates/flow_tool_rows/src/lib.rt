@@ -1,5 +1,5 @@
 //! Tests of the tools around a run: what is said of networks and records, what is read and made of reports, records that are
-//! cut and dealt out, rows as records, records that are run alone, and reports of parts that are merged.
+//! cut and dealt out, rows as records, records that are run alone or chunk by chunk, and reports of parts that are merged.
 #![tactic(auto)]
 
 #[cfg(test)]
@@ -36,6 +36,8 @@ mod results;
 mod sifted;
 #[cfg(test)]
 mod sifted_alone;
+#[cfg(test)]
+mod stream;
 #[cfg(test)]
 mod told;
 #[cfg(test)]
