@@ -84,6 +84,7 @@ READ_NO_FURTHER = [
     (f"yes orders,1 | head -n 100000 | bin/flow_run {NETWORK} 1 | head -n 1", "block orders done\n"),
     ("bin/flow results large.results.report | head -n 1", "order_numbers,1\n"),
     ("yes prices,1 | head -n 100000 | bin/flow sift examples/fault.toml | head -n 1", "prices,1\n"),
+    ("yes prices,1 | bin/flow stream 10 examples/fault.toml | head -n 1", "cents,100\n"),
     ("bin/flow help | head -n 1", "What is beside a run of flow_run, before it and after it.\n"),
     ("bin/flow_run --help | head -n 1", USAGE),
 ]

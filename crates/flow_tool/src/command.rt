@@ -270,6 +270,43 @@ example:
     arguments: &[NETWORK],
 };
 
+const STREAM: Entry = Entry {
+    name: "stream",
+    about: "Runs records chunk by chunk, without end and in little memory",
+    below: "\
+Each COUNT records of standard input are run by themselves, by a network of their own, and what its actions recorded is printed as
+the chunk ends: as rows of CSV, if nothing else is asked for. A network whose reports can't be merged (`flow merge`) is refused. A
+chunk whose run does not end with status 0 ends it with that status, and standard error says which records it has: all before them are
+printed, and nothing of them. So `--from`, with the first of them, goes on there once they are mended.
+
+example:
+  flow stream 1000 network.toml < records.csv > results.csv
+  flow stream 1000 --jsonl --from 2001 network.toml < records.csv",
+    arguments: &[
+        argument!(
+            "size",
+            Form::Needed("COUNT"),
+            "How many records a chunk has"
+        ),
+        NETWORK,
+        argument!(
+            "jsonl",
+            Form::Flag(&[]),
+            "Prints a JSON object for each result, a line each"
+        ),
+        argument!(
+            "report",
+            Form::Flag(&["jsonl"]),
+            "Prints the report of each chunk"
+        ),
+        argument!(
+            "from",
+            Form::Named("RECORD"),
+            "Begins with this record, from 1"
+        ),
+    ],
+};
+
 const SPLIT: Entry = Entry {
     name: "split",
     about: "Cuts records into parts of about the same size",
@@ -355,6 +392,7 @@ pub fn command_line<'a>(alloc: Global) -> Result<Command<'a>, AllocError> {
         trace(),
         feed(),
         sift(),
+        stream(),
         split(),
         merge(),
     ];
@@ -397,6 +435,10 @@ fn feed() -> Entry {
 
 fn sift() -> Entry {
     SIFT
+}
+
+fn stream() -> Entry {
+    STREAM
 }
 
 fn split() -> Entry {

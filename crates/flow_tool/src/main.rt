@@ -17,6 +17,7 @@ mod reports;
 mod result_files;
 mod sifting;
 mod stop;
+mod streaming;
 mod whole_files;
 
 use crate::checking::check;
@@ -27,6 +28,7 @@ use crate::parts::{merge, split};
 use crate::reports::{draw, results, trace, why};
 use crate::sifting::sift;
 use crate::stop::Stop;
+use crate::streaming::stream;
 use clap::ArgMatches;
 use clap::error::ErrorKind;
 use flow_places::Escaped;
@@ -35,11 +37,15 @@ use std::env::Env;
 use std::fs::Files;
 use std::io::{Input, IsTerminal, Write};
 use std::process::ExitCode;
+use std::time::Clock;
 use std::{env, io};
 
 fn main(rt: HostRuntime) -> ExitCode {
-    let is_terminal = rt.stdout().is_terminal();
-    match perform(&rt, is_terminal) {
+    let terminals = Terminals {
+        output: rt.stdout().is_terminal(),
+        errors: rt.stderr().is_terminal(),
+    };
+    match perform(&rt, terminals) {
         Ok(status) => ExitCode::from(status),
         Err(stop) => {
             // Nobody is left to tell where standard error fails.
@@ -49,18 +55,35 @@ fn main(rt: HostRuntime) -> ExitCode {
     }
 }
 
-/// Does what the arguments of the process ask for, and answers the status. Standard output may be a terminal.
-fn perform<R: Env + Files + Input + Print + Eprint + AllocGlobal>(
+/// Which streams people look at.
+#[derive(Clone, Copy)]
+struct Terminals {
+    output: bool,
+    errors: bool,
+}
+
+/// Does what the arguments of the process ask for, and answers the status.
+fn perform<R: Env + Files + Input + Print + Eprint + AllocGlobal + Clock>(
     rt: &R,
-    is_terminal: bool,
+    terminals: Terminals,
 ) -> Result<u8, Stop> {
     let arguments = match env::args(rt) {
         Ok(arguments) => arguments,
         Err(error) => return Err(Stop::usage("an argument is not UTF-8").unless_memory(&error)),
     };
     let words: Vec<String> = arguments.collect(rt.alloc())?;
-    let coloured = is_terminal && !is_set(rt, "NO_COLOR");
-    answer(rt, &words, coloured)
+    let look = Look {
+        is_coloured: terminals.output && !is_set(rt, "NO_COLOR"),
+        is_watched: terminals.errors,
+    };
+    answer(rt, &words, look)
+}
+
+/// What people see: drawings may have colours, and they may be told how far a command is.
+#[derive(Clone, Copy)]
+struct Look {
+    is_coloured: bool,
+    is_watched: bool,
 }
 
 /// Whether a variable of the environment has any text.
@@ -72,13 +95,13 @@ fn is_set<R: Env + AllocGlobal>(rt: &R, name: &str) -> bool {
 }
 
 /// Does what these words ask for, of which the first is the program's name.
-fn answer<R: Files + Input + Print + Eprint + AllocGlobal>(
+fn answer<R: Files + Input + Print + Eprint + AllocGlobal + Clock>(
     rt: &R,
     words: &[String],
-    coloured: bool,
+    look: Look,
 ) -> Result<u8, Stop> {
     match command_line(rt.alloc())?.try_get_matches_from(words) {
-        Ok(matches) => dispatch(rt, &matches, coloured),
+        Ok(matches) => dispatch(rt, &matches, look),
         Err(error) => match error.kind() {
             ErrorKind::DisplayHelp | ErrorKind::DisplayVersion => {
                 match write!(io::writer(rt), "{error}") {
@@ -114,20 +137,21 @@ fn refusal_in(alloc: Global, words: &[String]) -> Result<Stop, AllocError> {
 }
 
 /// Does what a command line that was accepted asks for.
-fn dispatch<R: Files + Input + Print + Eprint + AllocGlobal>(
+fn dispatch<R: Files + Input + Print + Eprint + AllocGlobal + Clock>(
     rt: &R,
     matches: &ArgMatches<'_>,
-    coloured: bool,
+    look: Look,
 ) -> Result<u8, Stop> {
     match matches.subcommand() {
         Some(("check", given)) => check(rt, given),
-        Some(("draw", given)) => draw(rt, given, coloured),
+        Some(("draw", given)) => draw(rt, given, look.is_coloured),
         Some(("page", given)) => page(rt, given),
         Some(("why", given)) => why(rt, given),
         Some(("results", given)) => results(rt, given),
         Some(("trace", given)) => trace(rt, given),
         Some(("feed", given)) => feed(rt, given),
         Some(("sift", given)) => sift(rt, given),
+        Some(("stream", given)) => stream(rt, given, look.is_watched),
         Some(("split", given)) => split(rt, given),
         Some(("merge", given)) => merge(rt, given),
         _ => Err(Stop::usage("a command is needed; `flow --help` lists them")),
