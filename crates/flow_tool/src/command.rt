@@ -137,11 +137,19 @@ const WHY: Entry = Entry {
     name: "why",
     about: "Tells why a run ended with its status",
     below: "\
-The status is that of the run.
+The status is that of the run. With its records, the first of them that alone faults as a block did is told too, with its line.
 
 example:
-  flow why network.toml run.report",
-    arguments: &[NETWORK, REPORT],
+  flow why network.toml run.report records.csv",
+    arguments: &[
+        NETWORK,
+        REPORT,
+        argument!(
+            "records",
+            Form::Optional("RECORDS"),
+            "The file with the records of the run, or - for standard input"
+        ),
+    ],
 };
 
 const RESULTS: Entry = Entry {

@@ -51,7 +51,12 @@ pub fn read_network<R: Files + Input + AllocGlobal>(
     path: &str,
 ) -> Result<Plan<Steps>, Stop> {
     let text = read_file(rt, path)?;
-    match read_plan(rt.alloc(), &text) {
+    plan_in(rt.alloc(), path, &text)
+}
+
+/// The network that the text of this file is.
+pub fn plan_in(alloc: Global, path: &str, text: &[u8]) -> Result<Plan<Steps>, Stop> {
+    match read_plan(alloc, text) {
         Ok(plan) => Ok(plan),
         Err(refusal) => Err(Stop::of_text(path, refusal)),
     }

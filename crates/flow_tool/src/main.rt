@@ -7,6 +7,7 @@
 
 mod checking;
 mod command;
+mod culprits;
 mod feeding;
 mod files;
 mod output;

@@ -1,5 +1,6 @@
 //! `flow draw`, `flow why`, `flow results` and `flow trace`.
-use crate::files::{file_of, read_file, read_network, read_text_report};
+use crate::culprits::tell_culprits;
+use crate::files::{file_of, plan_in, read_file, read_network, read_text_report};
 use crate::output::{finish, output};
 use crate::result_files::ResultFiles;
 use crate::stop::Stop;
@@ -61,21 +62,39 @@ fn untold(path: &str, fault: TellFault) -> Stop {
     }
 }
 
-/// Tells why a run ended with its status, which is the answer.
+/// Tells why a run ended with its status, which is the answer, and which of its records faults come from where these are given.
 pub fn why<R: Files + Input + Print + AllocGlobal>(
     rt: &R,
     given: &ArgMatches<'_>,
 ) -> Result<u8, Stop> {
-    let plan = read_network(rt, given.get_str("network").unwrap_or(""))?;
-    let outline = outline_of(rt.alloc(), &plan)?;
+    let alloc = rt.alloc();
+    let network = given.get_str("network").unwrap_or("");
+    let network_text = read_file(rt, network)?;
+    let plan = plan_in(alloc, network, &network_text)?;
+    let outline = outline_of(alloc, &plan)?;
     let path = given.get_str("report").unwrap_or("");
     let text = read_file(rt, path)?;
-    let report = read_text_report(rt.alloc(), path, &text)?;
+    let report = read_text_report(alloc, path, &text)?;
+    let records = match given.get_str("records") {
+        Some(path) => Some(read_file(rt, path)?),
+        None => None,
+    };
     let mut writer = output(rt)?;
-    match write_verdict(&outline, &report, &mut writer) {
-        Ok(status) => finish(writer, status),
-        Err(fault) => Err(untold(path, fault)),
+    let status = match write_verdict(&outline, &report, &mut writer) {
+        Ok(status) => status,
+        Err(fault) => return Err(untold(path, fault)),
+    };
+    if let Some(records) = records {
+        tell_culprits(
+            alloc,
+            network,
+            &network_text,
+            &records,
+            &report,
+            &mut writer,
+        )?;
     }
+    finish(writer, status)
 }
 
 /// Prints what actions recorded, or writes it to files.

@@ -8,7 +8,7 @@ use std::fs::Files;
 use std::io::Input;
 
 /// The most events of one record's run.
-const LIMIT: u64 = 10_000_000;
+pub const LIMIT: u64 = 10_000_000;
 
 /// Runs each record of standard input alone. Those that pass go to standard output, and of the others a line goes to
 /// standard error.
