@@ -1,5 +1,5 @@
 -- Parts that were run are gathered, and what comes back of them is of the network that was scattered.
-use Rattle.std.proofs.Common.{◌≡◌, ℕ, List, Option, Result, map, refl, sym, subst, ◌∙◌}
+use Rattle.std.proofs.Common.{◌≡◌, ℕ, List, Option, Result, map, refl, subst, ◌∙◌}
 use Rattle.flow_value.specs.declared.value.Value.{Value}
 use Rattle.flow_value.specs.declared.work.WorkFault.{WorkFault}
 use Rattle.flow_link.specs.Layout.{Layout}
@@ -21,7 +21,7 @@ use Rattle.flow_crew.proofs.Once.{never_missing}
 use Rattle.flow_open.specs.declared.fault.OpenFault.{OpenFault}
 use Rattle.flow_open.specs.declared.fault.OpenFault.TheVariants as fault
 use Rattle.flow_open.specs.declared.sender.Sender.{Sender}
-use Rattle.flow_open.specs.Opened.{AreLeft, AreWhole, IsBack, IsLeftOf, IsScattered}
+use Rattle.flow_open.specs.Opened.{AreWhole, IsBack, IsLeftOf, IsScattered}
 
 module _ {W : Type 0} {w : _} {e : _} where
   -- parts with the numbers that they had before are not missed

@@ -1,5 +1,5 @@
 -- Entries and exits of one board, of which one changes.
-use Rattle.std.proofs.Common.{◌≡◌, ℕ, zero, suc, ◌<◌, List, [], ◌∷◌, length, map, get_or, set, refl, sym, ap, ◌∙◌, arith}
+use Rattle.std.proofs.Common.{◌≡◌, ℕ, zero, suc, ◌<◌, List, [], ◌∷◌, length, map, get_or, set, ap, ◌∙◌, arith}
 use Rattle.std.proofs.Math.Seq.{map-set_same}
 use Rattle.flow_board.specs.Parts.{AllEntriesOf, AllExitsOf, entry_board, entry_number, exit_board, exit_number}
 use Rattle.flow_task.specs.declared.board.Board.{Board}

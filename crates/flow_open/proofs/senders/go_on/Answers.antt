@@ -1,5 +1,4 @@
-use Rattle.std.proofs.Common.{◌≡◌, true, refl, sym, ◌∙◌}
-use Rattle.flow_open.specs.Senders.{is_sending}
+use Rattle.std.proofs.Common.{refl, sym, ◌∙◌}
 use Rattle.flow_open.proofs.Sending.{sends_accepted, sends_declined, sends_none, sends_on, sends_returned, sends_same}
 use Rattle.flow_open.proofs.senders.go_on.Goals as goal
 
