@@ -67,9 +67,9 @@ posts_to_inputs text layout start posted made values endings =
     }
 
 -- a network keeps its plan
-pub posted_in : {now layout : Layout Steps} {start : NetState} {text : List ℕ} → now ≡ layout
+pub posted_in : (text : List ℕ) (now layout : Layout Steps) (start : NetState) → now ≡ layout
     → IsPosted text (run_with meaning_of layout start) → IsPosted text (run_with meaning_of now start)
-posted_in {start = start} {text = text} same posted = subst (λ (l : Layout Steps). IsPosted text (run_with meaning_of l start)) (sym same) posted
+posted_in text now layout start same posted = subst (λ (l : Layout Steps). IsPosted text (run_with meaning_of l start)) (sym same) posted
 
 -- and its inputs are given the same as it goes on
 pub posted_as : (text : List ℕ) (layout : Layout Steps) (start now : NetState)

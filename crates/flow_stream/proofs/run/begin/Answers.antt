@@ -1,5 +1,4 @@
-use Rattle.std.proofs.Common.{◌∙◌, ap, length, map, sym}
-use Rattle.std.proofs.lemmas.Result.{err_from_is_err_and}
+use Rattle.std.proofs.Common.{◌∙◌, length, map}
 use Rattle.flow_link.specs.Planned.{layout_of}
 use Rattle.flow_link.specs.Posted.{input_of}
 use Rattle.flow_net.specs.Net.{layout_in, parts_of}
@@ -7,24 +6,23 @@ use Rattle.flow_record_text.specs.Records.{input_names}
 use Rattle.flow_stream.proofs.PostedAsRead.{names_count, as_many, complete_numbered, posts_to_inputs, posted_in, none_at_first}
 use Rattle.flow_stream.proofs.run.begin.Goals as goal
 
-pub new-requires : goal.new-requires
-new-requires g c =
+pub new-requires-clause-one_each : goal.new-requires-clause-one_each
+new-requires-clause-one_each c =
     let blocks = (layout_of c.args.plan).blocks in
-    let posted = c.in_ok-posted in
-    record {
-      one_each = as_many posted.posted.items (length (input_names blocks)) posted.ensures.endings ∙ names_count blocks;
-      numbered = complete_numbered posted.posted.items (length (input_names blocks)) posted.ensures.endings;
-    }
+    as_many c.in-Ok.posted.items (length (input_names blocks)) c.in-Ok.ensures.endings ∙ names_count blocks
 
-pub returns-in-Ok-clause-none : goal.returns-in-Ok-clause-none
-returns-in-Ok-clause-none g c =
-    let net = c.in-Ok.net in
-    none_at_first (layout_in net) (parts_of net) (map input_of c.in_ok-posted.posted.items) c.in-Ok.ensures.fresh
+pub new-requires-clause-numbered : goal.new-requires-clause-numbered
+new-requires-clause-numbered c =
+    complete_numbered c.in-Ok.posted.items (length (input_names (layout_of c.args.plan).blocks)) c.in-Ok.ensures.endings
 
-pub returns-in-Ok-clause-posted : goal.returns-in-Ok-clause-posted
-returns-in-Ok-clause-posted g c =
+pub returns-in-Ok-new-clause-none : goal.returns-in-Ok-new-clause-none
+returns-in-Ok-new-clause-none c =
+    let net = c.in-Ok-new.net in
+    none_at_first (layout_in net) (parts_of net) (map input_of c.in-Ok.posted.items) c.in-Ok-new.ensures.fresh
+
+pub returns-in-Ok-new-clause-posted : goal.returns-in-Ok-new-clause-posted
+returns-in-Ok-new-clause-posted c =
     let plan = layout_of c.args.plan in
-    let net = c.in-Ok.net in
-    posted_in c.in-Ok.ensures.planned
-    (posts_to_inputs c.args.text.now plan (parts_of net) c.in_ok-posted.posted.items c.in-Ok.ensures.made
-    c.in_ok-posted.ensures.values c.in_ok-posted.ensures.endings)
+    let net = c.in-Ok-new.net in
+    posted_in c.args.text.now (layout_in net) plan (parts_of net) c.in-Ok-new.ensures.planned
+    (posts_to_inputs c.args.text.now plan (parts_of net) c.in-Ok.posted.items c.in-Ok-new.ensures.made c.in-Ok.ensures.values c.in-Ok.ensures.endings)
