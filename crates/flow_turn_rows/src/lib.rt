@@ -34,6 +34,8 @@ mod paced;
 #[cfg(test)]
 mod phases;
 #[cfg(test)]
+mod pieces;
+#[cfg(test)]
 mod rounds;
 #[cfg(test)]
 mod sends;
