@@ -28,6 +28,8 @@ mod networks;
 #[cfg(test)]
 mod numbers;
 #[cfg(test)]
+mod opened;
+#[cfg(test)]
 mod overlap;
 #[cfg(test)]
 mod paced;
