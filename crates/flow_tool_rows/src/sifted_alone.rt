@@ -3,6 +3,7 @@ use crate::check::check;
 use flow_sift::sift;
 use flow_text::TextRefusal;
 use std::alloc::Global;
+use std::process::Abort;
 use std::test::Fail;
 
 /// More events than any record here needs alone, and fewer than some of them need together.
@@ -335,17 +336,17 @@ fn all_records(alloc: Global, by_turns: bool) -> Result<String, Fail> {
 }
 
 /// Sifts the same records together and each alone, over each network.
-fn sift_both_ways(rt: &HostRuntime, by_turns: bool) -> Result<(), Fail> {
-    let records = all_records(rt.alloc(), by_turns)?;
+fn sift_both_ways(rt: &(impl Abort + Print), alloc: Global, by_turns: bool) -> Result<(), Fail> {
+    let records = all_records(alloc, by_turns)?;
     for (name, network) in NETWORKS {
-        let Ok(whole) = sifted(rt.alloc(), network, records.as_str().as_bytes()) else {
+        let Ok(whole) = sifted(alloc, network, records.as_str().as_bytes()) else {
             panic!(rt; "{name} is refused");
         };
-        let alone = each_alone(rt.alloc(), network, by_turns)?;
+        let alone = each_alone(alloc, network, by_turns)?;
         check(rt, name, !alone.good.is_empty() && !alone.bad.is_empty());
         check(rt, name, whole.good.as_slice() == alone.good.as_slice());
-        let lines = without_numbers(rt.alloc(), &whole.bad)?;
-        let due = without_numbers(rt.alloc(), &alone.bad)?;
+        let lines = without_numbers(alloc, &whole.bad)?;
+        let due = without_numbers(alloc, &alone.bad)?;
         check(rt, name, lines.as_str() == due.as_str());
     }
     Ok(())
@@ -353,10 +354,10 @@ fn sift_both_ways(rt: &HostRuntime, by_turns: bool) -> Result<(), Fail> {
 
 #[test]
 fn records_by_turns_are_as_each_alone(rt: HostRuntime) -> Result<(), Fail> {
-    sift_both_ways(&rt, true)
+    sift_both_ways(&rt, rt.alloc(), true)
 }
 
 #[test]
 fn records_of_one_input_after_the_other_are_as_each_alone(rt: HostRuntime) -> Result<(), Fail> {
-    sift_both_ways(&rt, false)
+    sift_both_ways(&rt, rt.alloc(), false)
 }

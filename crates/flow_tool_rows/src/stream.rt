@@ -8,6 +8,7 @@ use flow_text::TextFault;
 use std::alloc::Global;
 use std::io;
 use std::io::{BufReader, ErrorKind, Write};
+use std::process::Abort;
 use std::test::Fail;
 
 const CHAIN: &str = r#"format = 1
@@ -174,21 +175,21 @@ struct Outcome {
 }
 
 /// A reader of these bytes, which holds so many of them.
-fn held<'r>(rt: &HostRuntime, room: usize, records: &'r [u8]) -> BufReader<&'r [u8]> {
-    match BufReader::with_capacity(rt.alloc(), room, records) {
+fn held<'r>(rt: &impl Abort, alloc: Global, room: usize, records: &'r [u8]) -> BufReader<&'r [u8]> {
+    match BufReader::with_capacity(alloc, room, records) {
         Ok(reader) => reader,
         Err(_) => panic!(rt; "out of memory"),
     }
 }
 
 fn streamed(
-    rt: &HostRuntime,
+    rt: &impl Abort,
+    alloc: Global,
     network: &str,
     (size, skipped): (u64, u64),
     reader: BufReader<&[u8]>,
     form: Form,
 ) -> Outcome {
-    let alloc = rt.alloc();
     let plan = planned(rt, alloc, network.as_bytes());
     let mut stream = Stream::new(alloc, plan, reader, size, form);
     let mut text = Vec::new(alloc);
@@ -213,8 +214,8 @@ fn streamed(
 fn chunks_are_run_by_themselves(rt: HostRuntime) {
     for room in [1, 3, 4_096] {
         for (name, network, steps, records, due, fault) in cases() {
-            let reader = held(&rt, room, records);
-            let outcome = streamed(&rt, network, steps, reader, Form::Csv);
+            let reader = held(&rt, rt.alloc(), room, records);
+            let outcome = streamed(&rt, rt.alloc(), network, steps, reader, Form::Csv);
             is_due(
                 &rt,
                 name,
@@ -256,10 +257,10 @@ fn count_of(alloc: Global, text: &[u8]) -> u64 {
 }
 
 /// How many records a stream goes past in a text.
-fn streamed_past(rt: &HostRuntime, text: &[u8]) -> u64 {
-    let plan = planned(rt, rt.alloc(), CHAIN.as_bytes());
-    let reader = held(rt, 4_096, text);
-    let mut stream = Stream::new(rt.alloc(), plan, reader, 1, Form::Csv);
+fn streamed_past(rt: &(impl Abort + Print), alloc: Global, text: &[u8]) -> u64 {
+    let plan = planned(rt, alloc, CHAIN.as_bytes());
+    let reader = held(rt, alloc, 4_096, text);
+    let mut stream = Stream::new(alloc, plan, reader, 1, Form::Csv);
     check(rt, "the text is read", stream.skip(9).is_ok());
     stream.number()
 }
@@ -269,7 +270,11 @@ fn records_end_where_a_run_ends_them(rt: HostRuntime) -> Result<(), Fail> {
     for number in 0..15_625 {
         let text = text_with(rt.alloc(), number)?;
         let due = count_of(rt.alloc(), &text);
-        check(&rt, "as many records", streamed_past(&rt, &text) == due);
+        check(
+            &rt,
+            "as many records",
+            streamed_past(&rt, rt.alloc(), &text) == due,
+        );
     }
     Ok(())
 }
@@ -287,8 +292,8 @@ fn results_are_those_of_the_reports(rt: HostRuntime) -> Result<(), Fail> {
             b"names,\"a,b\"\nin,007\nnames,\nin,-1\nnames,' \"\n" as &[u8],
         ),
     ] {
-        let reader = held(&rt, 4_096, records);
-        let report = streamed(&rt, network, (100, 0), reader, Form::Report);
+        let reader = held(&rt, rt.alloc(), 4_096, records);
+        let report = streamed(&rt, rt.alloc(), network, (100, 0), reader, Form::Report);
         check(&rt, "the report", report.fault == None);
         for (form, printed) in [
             (Form::Csv, ResultsForm::Csv),
@@ -298,8 +303,8 @@ fn results_are_those_of_the_reports(rt: HostRuntime) -> Result<(), Fail> {
             if write_results(rt.alloc(), &report.text, &[], printed, &mut due).is_err() {
                 panic!(&rt; "no results");
             }
-            let reader = held(&rt, 4_096, records);
-            let outcome = streamed(&rt, network, (100, 0), reader, form);
+            let reader = held(&rt, rt.alloc(), 4_096, records);
+            let outcome = streamed(&rt, rt.alloc(), network, (100, 0), reader, form);
             is_due(
                 &rt,
                 "results",
@@ -313,8 +318,8 @@ fn results_are_those_of_the_reports(rt: HostRuntime) -> Result<(), Fail> {
 
 #[test]
 fn each_chunk_has_its_report(rt: HostRuntime) -> Result<(), Fail> {
-    let reader = held(&rt, 4_096, b"in,1\nin,2\n");
-    let outcome = streamed(&rt, CHAIN, (1, 0), reader, Form::Report);
+    let reader = held(&rt, rt.alloc(), 4_096, b"in,1\nin,2\n");
+    let outcome = streamed(&rt, rt.alloc(), CHAIN, (1, 0), reader, Form::Report);
     let text = str::from_utf8(&outcome.text)?;
     check(&rt, "two reports", text.split("quiet\n").count() == 3);
     check(&rt, "the first", text.contains("record [100]\n"));
@@ -350,10 +355,10 @@ impl Write for Narrow {
 }
 
 /// What a stream comes to whose writer takes just its first chunk.
-fn narrowed(rt: &HostRuntime, alloc: Global, failure: ErrorKind) -> Option<StreamFault> {
+fn narrowed(rt: &(impl Abort + Print), alloc: Global, failure: ErrorKind) -> Option<StreamFault> {
     let plan = planned(rt, alloc, CHAIN.as_bytes());
     let records: &[u8] = b"in,1\nin,2\nin,3\nin,4\n";
-    let reader = held(rt, 4_096, records);
+    let reader = held(rt, alloc, 4_096, records);
     let stream = Stream::new(alloc, plan, reader, 2, Form::Csv);
     let mut writer = Narrow {
         taken: Vec::new(alloc),
