@@ -1,3 +1,3 @@
-pub mod SecondTask
+pub mod PartsOf
 pub mod SentBack
 pub mod TasksAt

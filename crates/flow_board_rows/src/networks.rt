@@ -30,6 +30,10 @@ const BUFFER: &str = "b* buffer output true";
 /// A buffer with room for one message, which leads out of the network.
 pub(crate) const BOUNDED: &str = "b* buffer capacity 1 output true";
 
+/// Two buffers, of which one stays open, and a transform with two lanes whose results lead out of the network.
+const EACH_SORT: &str =
+    "a* buffer, b* buffer, t transform(int) lanes 2 output true, a => t, b => t";
+
 /// A block that takes one message.
 pub(crate) const ONCE: &str = "b* write_once";
 
@@ -118,6 +122,15 @@ pub(crate) fn buffer_parts(rt: &impl Abort, alloc: Global, records: &str) -> Par
     ensures exits_of { AllExitsOf result.board result.exits.items }
 {
     scattered(rt, alloc, BUFFER, records)
+}
+
+/// Parts of each sort: the tasks of three blocks, an input and two lanes, an entry, and an exit, with these numbers in this order.
+pub(crate) fn parts_of_each_sort(rt: &impl Abort, alloc: Global) -> Parts<Steps>
+    ensures tasks_of { AllTasksOf result.board result.tasks.items }
+    ensures entries_of { AllEntriesOf result.board result.entries.items }
+    ensures exits_of { AllExitsOf result.board result.exits.items }
+{
+    scattered(rt, alloc, EACH_SORT, "a,1 a,2 b?")
 }
 
 /// The parts of a network, scattered once more.
