@@ -35,7 +35,10 @@ pub(crate) fn main<R: Threads + Wait + Clock + Print + AllocGlobal + Sync>(rt: &
         }
     };
     let senders = vec![in alloc; Sender::new(prices.into_iter())]?;
-    let receivers = vec![in alloc; print]?;
+    let mut receivers = Vec::new(alloc);
+    let Ok(()) = receivers.push(print) else {
+        bail!("out of memory");
+    };
     let Ok(opened) = run_open(rt, alloc, shop(alloc)?, 2, senders, receivers) else {
         bail!("out of memory");
     };

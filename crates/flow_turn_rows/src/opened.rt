@@ -61,7 +61,8 @@ fn run<R: Abort + Threads + Wait + Clock + Sync>(
             sum = sum.saturating_add(number);
         }
     };
-    let Ok(receivers) = vec![in alloc; add] else {
+    let mut receivers = Vec::new(alloc);
+    let Ok(()) = receivers.push(add) else {
         panic!(rt; "out of memory");
     };
     let senders = senders(rt, alloc, count);
