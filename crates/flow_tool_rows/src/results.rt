@@ -118,33 +118,6 @@ fn results_of_blocks_by_name(rt: HostRuntime) -> Result<(), Fail> {
     Ok(())
 }
 
-/// Of each action its name, and what is written of it alone with names of columns.
-const BY_ACTION: &[(&str, &str)] = &[
-    (
-        "a",
-        "block,value1,value2,value3\na,-9223372036854775808,,\n",
-    ),
-    ("c", "block,value\nc,9223372036854775807\n"),
-];
-
-#[test]
-fn results_of_each_action(rt: HostRuntime) -> Result<(), Fail> {
-    let form = ResultsForm::NamedCsv;
-    let all_of_them: &[&str] = &[];
-    let both: &[&str] = &["c", "a"];
-    for names in [all_of_them, both] {
-        let Ok(all) = results_by_action(rt.alloc(), VALUES.as_bytes(), names, form) else {
-            return Err(Fail::new("no results"));
-        };
-        check(&rt, "two actions", all.len() == 2);
-        for ((name, front), action) in BY_ACTION.iter().zip(&all) {
-            let is_due = action.name == *name && action.text.starts_with(front.as_bytes());
-            check(&rt, name, is_due);
-        }
-    }
-    Ok(())
-}
-
 /// An action by its name, a block that is none, and a report without an action.
 #[test]
 fn results_by_action_are_those_of_its_name(rt: HostRuntime) -> Result<(), Fail> {
