@@ -13,7 +13,7 @@ use Rattle.flow_link.specs.declared.draft.BlockDef.{BlockDef}
 use Rattle.flow_link.specs.declared.posted.Posted.{Posted}
 use Rattle.flow_link.specs.declared.trace.Ending.{Ending}
 use Rattle.flow_link.specs.declared.trace.Ending.TheVariants.{Complete}
-use Rattle.flow_lists.specs.Lists.{every}
+use Rattle.flow_link.specs.Lists.{every}
 use Rattle.flow_lawful.specs.Lawful.{Lawful}
 use Rattle.flow_lawful.specs.Quiet.{Quiet as IsQuiet}
 use Rattle.flow_core.specs.Inputs.{none_posted}

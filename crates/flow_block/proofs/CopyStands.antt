@@ -20,7 +20,7 @@ use Rattle.flow_spread.specs.Spread.{SpreadState, end_at, link_at, stage_at, cha
 use Rattle.flow_spread.specs.ByLink.{place_of, IsAsked, answered_link, still_owes, answered, is_there, gives_home}
 use Rattle.flow_spread.proofs.NextOffer.{Next}
 use Rattle.flow_block.specs.Traits.{source_shown, is_copy_ready, copy_shown, copy_place_shown, copy_over, carries_copy, may_take_copy}
-use Rattle.flow_lists.proofs.PlacesNamed.{place_set}
+use Rattle.flow_link.proofs.PlacesNamed.{place_set}
 use Rattle.flow_block.proofs.SourceStands.{IsOut, shown_out, free_stage}
 use Rattle.flow_block.proofs.PromisedStands.{promised_by}
 

@@ -7,7 +7,7 @@ use Rattle.flow_spread.specs.Spread.{is_spread_free}
 use Rattle.flow_block.specs.Block.{BlockState, held_by}
 use Rattle.flow_block.specs.Peeks.{has_next, may_work}
 use Rattle.flow_block.specs.Traits.{makes_alone, has_turn, makes_itself, outcome_of}
-use Rattle.flow_lists.proofs.TestsTell.{none_is}
+use Rattle.flow_link.proofs.TestsTell.{none_is}
 
 -- a block that may work has not stopped
 pub working_goes_on : (block : BlockState) → may_work block ≡ true → outcome_of block ≡ None

@@ -5,10 +5,10 @@ use Rattle.std.proofs.lemmas.List.Elements.{filter-append}
 use Rattle.flow_link.specs.declared.draft.BlockDef.{BlockDef}
 use Rattle.flow_link.specs.declared.plan.Link.{Link}
 use Rattle.flow_link.specs.declared.plan.LinkTarget.TheVariants.{Port}
-use Rattle.flow_lists.specs.Lists.{numbers_from, below}
+use Rattle.flow_link.specs.Lists.{numbers_from, below}
 use Rattle.flow_link.specs.Plan.{ends_at, link_in, links_into}
 use Rattle.flow_link.specs.WellFormed.{IsWellFormed}
-use Rattle.flow_lists.proofs.ListTests.{below_more, length_numbers}
+use Rattle.flow_link.proofs.ListTests.{below_more, length_numbers}
 use Rattle.flow_intake.specs.Port.{EndState, PortState, fresh_end}
 
 -- The numbers below a bound that pass a test

@@ -5,11 +5,11 @@ use Rattle.flow_link.specs.declared.draft.BlockDef.{BlockDef}
 use Rattle.flow_link.specs.declared.draft.BlockKind.{BlockKind}
 use Rattle.flow_link.specs.declared.draft.BlockKind.TheVariants as kinds
 use Rattle.flow_link.specs.Layout.{Layout}
-use Rattle.flow_lists.specs.Lists.{every, below}
+use Rattle.flow_link.specs.Lists.{every, below}
 use Rattle.flow_link.specs.Plan.{block_in, ports_by_kind, port_count, has_work}
 use Rattle.flow_link.specs.PlanFaults.{is_name, is_in, allows, input_rule, output_rule, capacity_rule, work_rule, lanes_rule, size_rule, ports_rule, greedy_rule, keys_fit, ranges_fit, options_fit}
 use Rattle.flow_link.specs.declared.stage.TargetStage.TheVariants as target
-use Rattle.flow_lists.proofs.ListTests.{length_numbers}
+use Rattle.flow_link.proofs.ListTests.{length_numbers}
 use Rattle.flow_intake.specs.Port.{PortState, count_at, is_owed, end_in, fresh_end, fresh_port}
 use Rattle.flow_intake.specs.ByLink.{place_of}
 use Rattle.flow_outlet.specs.Outlet.{is_empty}

@@ -18,7 +18,7 @@ use Rattle.flow_outlet.specs.ByLink.{place_of, answer_stage, answer_declined, an
 use Rattle.flow_outlet.specs.declared.ends.OutEnd.{OutEnd}
 use Rattle.flow_outlet.proofs.TestsTell.{at_is}
 use Rattle.flow_block.specs.Traits.{is_ready, source_shown, end_shown, place_shown, source_over, is_busy, carries}
-use Rattle.flow_lists.proofs.PlacesNamed.{place_set, place_map}
+use Rattle.flow_link.proofs.PlacesNamed.{place_set, place_map}
 
 -- The end of a link
 

@@ -8,7 +8,7 @@ use Rattle.flow_value.specs.declared.message.MessageStatus.{MessageStatus}
 use Rattle.flow_link.specs.declared.stage.Refusal.TheVariants.{PortEnded}
 use Rattle.flow_link.specs.declared.stage.TargetStage.{TargetStage}
 use Rattle.flow_link.specs.declared.stage.TargetStage.TheVariants as target
-use Rattle.flow_lists.specs.Lists.{numbers_from, below}
+use Rattle.flow_link.specs.Lists.{numbers_from, below}
 use Rattle.flow_link.specs.StagesMove.{MovesBy, MovesTo}
 use Rattle.flow_link.specs.TargetCalls.{StandsAfter, Wants, Consumes, Wishes, MayNote, stage_noted}
 use Rattle.flow_link.specs.declared.traits.Wish.{Wish}
@@ -20,7 +20,7 @@ use Rattle.flow_spread.specs.Spread.{puts}
 use Rattle.flow_block.specs.Copies.{copies_weight}
 use Rattle.flow_block.specs.Block.{BlockState, port_in, port_at, copies_taken, copies_at_once, copies_where, copies_next}
 use Rattle.flow_block.specs.Traits.{port_shown, shown_over, has_link, port_into, target_over, notes, names_itself, leads_to, wishes_at, wishing_port, wish_named}
-use Rattle.flow_lists.proofs.PlacesNamed.{place_set, place_is}
+use Rattle.flow_link.proofs.PlacesNamed.{place_set, place_is}
 use Rattle.flow_block.proofs.PortsChange.{kept_at_one}
 use Rattle.flow_block.proofs.TargetStands.{SameLinks, PortMoves, PortChanges, answer_moves, arrive_moves, not_noted, note_moves, consume_at}
 

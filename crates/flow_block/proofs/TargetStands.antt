@@ -13,13 +13,13 @@ use Rattle.flow_link.specs.StagesMove.{MovesBy}
 use Rattle.flow_link.specs.TargetCalls.{HasRefused, StandsAfter, Wants, Consumes, MayNote, stage_noted}
 use Rattle.flow_link.specs.declared.traits.WishAnswer.{WishAnswer}
 use Rattle.flow_link.specs.declared.traits.WishAnswer.TheVariants as answer
-use Rattle.flow_lists.specs.Lists.{is_empty}
+use Rattle.flow_link.specs.Lists.{is_empty}
 use Rattle.flow_intake.specs.Port.{EndState, PortState, fresh_end, end_in, link_in, stage_at, has_room}
 use Rattle.flow_intake.specs.Calls.{answer_to, answer_where, put_stage, refused_by, message_of, is_postponed, consumes, is_at as is_place}
 use Rattle.flow_intake.specs.ByLink.{place_of, with_link_at, arrives_at, answered, closes_link, drops, drops_at, wish_from, wish_at, consumes_at}
 use Rattle.flow_intake.proofs.AnswersTell.{declining_is_refusing}
 use Rattle.flow_block.specs.Traits.{port_shown, shown_over, has_link, names_itself, holds_at, notes}
-use Rattle.flow_lists.proofs.PlacesNamed.{place_set, place_more, place_new}
+use Rattle.flow_link.proofs.PlacesNamed.{place_set, place_more, place_new}
 
 -- The stages at one port
 

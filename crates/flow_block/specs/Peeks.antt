@@ -4,7 +4,7 @@ use Rattle.flow_value.specs.declared.value.Value.{Value}
 use Rattle.flow_link.specs.declared.kinds.BlockUnit.{BlockUnit}
 use Rattle.flow_link.specs.declared.kinds.BlockUnit.TheVariants as unit
 use Rattle.flow_link.specs.Kinds.{unit_of}
-use Rattle.flow_lists.specs.Lists.{every}
+use Rattle.flow_link.specs.Lists.{every}
 use Rattle.flow_link.specs.Plan.{has_work, is_broadcast, is_write_once}
 use Rattle.flow_intake.specs.Port.{PortState, coming}
 use Rattle.flow_intake.specs.Ended.{first_some, has_seen_completion, of_lower_link, fault_at_ends}

@@ -12,7 +12,7 @@ use Rattle.flow_link.specs.declared.plan.LinkTarget.{LinkTarget}
 use Rattle.flow_link.specs.declared.plan.LinkTarget.TheVariants.{Port, Exit}
 use Rattle.flow_link.specs.Kinds.{unit_of}
 use Rattle.flow_link.specs.Layout.{Layout}
-use Rattle.flow_lists.specs.Lists.{below}
+use Rattle.flow_link.specs.Lists.{below}
 use Rattle.flow_link.specs.Making.{result_of}
 use Rattle.flow_link.specs.Plan.{block_in, link_in, begins_at, ends_at, ends_at_port, port_count, is_steady, is_sole, is_reserving}
 use Rattle.flow_intake.specs.Port.{PortState, fresh_port, fresh_end}

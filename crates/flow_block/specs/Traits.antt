@@ -10,7 +10,7 @@ use Rattle.flow_link.specs.declared.draft.BlockKind.{BlockKind}
 use Rattle.flow_link.specs.declared.kinds.BlockUnit.{BlockUnit}
 use Rattle.flow_link.specs.declared.kinds.BlockUnit.TheVariants as unit
 use Rattle.flow_link.specs.Kinds.{unit_of}
-use Rattle.flow_lists.specs.Lists.{below}
+use Rattle.flow_link.specs.Lists.{below}
 use Rattle.flow_link.specs.Plan.{has_work, is_broadcast, is_one_taker}
 use Rattle.flow_link.specs.declared.stage.Refusal.TheVariants.{PortEnded}
 use Rattle.flow_link.specs.declared.stage.SourceStage.{SourceStage}

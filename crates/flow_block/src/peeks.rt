@@ -66,7 +66,7 @@ impl Block {
     }
 
     /// Whether it could make nothing more of what it holds.
-    #[tactic(auto, using(flow_lists::proofs::FirstInOrder::all_is_every))]
+    #[tactic(auto, using(flow_link::proofs::FirstInOrder::all_is_every))]
     fn is_worked_off(&self) -> bool
         ensures { result ≡ is_worked_off self.now }
     {
@@ -186,7 +186,7 @@ impl Block {
 
     /// Whether its ports have completed. A join is complete, too, when a completed port has no message that waits for
     /// partners, and a block that takes one message in all when it has that.
-    #[tactic(auto, using(flow_lists::proofs::FirstInOrder::all_is_every))]
+    #[tactic(auto, using(flow_link::proofs::FirstInOrder::all_is_every))]
     pub fn is_complete(&self) -> bool
         ensures { result ≡ is_complete self.now }
     {
@@ -198,7 +198,7 @@ impl Block {
     }
 
     /// Whether it is done now: it is complete, has nothing to work on and nothing to give.
-    #[tactic(auto, using(flow_lists::proofs::FirstInOrder::all_is_every))]
+    #[tactic(auto, using(flow_link::proofs::FirstInOrder::all_is_every))]
     pub fn may_finish(&self) -> bool
         ensures { result ≡ may_finish self.now }
     {
@@ -218,7 +218,7 @@ impl Block {
     }
 
     /// Whether it is complete, and has nothing to work on and nothing to give.
-    #[tactic(auto, using(flow_lists::proofs::FirstInOrder::all_is_every))]
+    #[tactic(auto, using(flow_link::proofs::FirstInOrder::all_is_every))]
     fn has_all_given(&self) -> bool
         ensures { result ≡ has_all_given self.now }
     {
@@ -274,7 +274,7 @@ impl Block {
     }
 
     /// Whether it has not stopped, and no message is on its way into it.
-    #[tactic(auto, using(flow_lists::proofs::FirstInOrder::all_is_every))]
+    #[tactic(auto, using(flow_link::proofs::FirstInOrder::all_is_every))]
     fn could_stop(&self) -> bool
         ensures { result ≡ could_stop self.now }
     {

@@ -2,7 +2,7 @@
 //! places of all links at their two ends.
 ghost use Rattle.std.specs.Prelude.{◌≡◌, ℕ, ◌<◌, ◌≤◌, length, map, HoldsAt, IfOk, filter};
 ghost use Rattle.flow_link.specs.declared.plan.LinkTarget.TheVariants.{Port};
-ghost use Rattle.flow_lists.specs.Lists.{below};
+ghost use Rattle.flow_link.specs.Lists.{below};
 ghost use Rattle.flow_link.specs.Plan.{begins_at, block_in, ends_at, ends_at_port, is_reserving, is_sole, is_steady};
 ghost use Rattle.flow_link.specs.Plan.{links_into, port_count, takes_at_once};
 ghost use Rattle.flow_link.specs.Planned.{layout_of};

@@ -3,7 +3,7 @@ use Rattle.std.proofs.Common.{◌≡◌, ℕ, suc, ◌+◌, ◌<◌, ◌&&◌, B
 use Rattle.flow_link.specs.declared.draft.BlockKind.{BlockKind}
 use Rattle.flow_link.specs.declared.trace.Mark.{Mark}
 use Rattle.flow_lawful.specs.Endings.{is_complete as is_run_complete, is_complete_as}
-use Rattle.flow_lists.specs.Lists.{every, below, numbers_from}
+use Rattle.flow_link.specs.Lists.{every, below, numbers_from}
 use Rattle.flow_link.specs.Trace.{BlockTrace, Run, has_ended, has_complete, block_of, trace_of, marks_of, ports_of}
 use Rattle.flow_link.specs.Plan.{is_one_taker}
 use Rattle.flow_link.proofs.KindsTell.{kind_tells}

@@ -19,7 +19,7 @@ use Rattle.flow_link.specs.JournalGrows.{given_by_mark, taken_by_mark}
 use Rattle.flow_link.specs.Layout.{Layout}
 use Rattle.flow_link.specs.Plan.{is_write_once}
 use Rattle.flow_link.specs.Trace.{took, gave_over}
-use Rattle.flow_lists.proofs.ListTests.{or_weaker, never_both}
+use Rattle.flow_link.proofs.ListTests.{or_weaker, never_both}
 use Rattle.flow_link.proofs.OneMoreMark.{every_more}
 use Rattle.flow_intake.specs.Port.{PortState, fresh_port}
 use Rattle.flow_intake.specs.Calls.{first_of, gives_room, takes_next, port_closes}
@@ -51,7 +51,7 @@ use Rattle.flow_block_law.proofs.GaveHolds.{count_more}
 use Rattle.flow_block_law.proofs.JournalTells.{took_same, gave_same, gave_here}
 use Rattle.flow_block_law.proofs.PlacesOfCopies.{rule_at_end, count_copies, rule_at, copies_differ}
 use Rattle.flow_block.proofs.PortsChange.{kept_at_one, kept_at_all}
-use Rattle.flow_lists.proofs.TestsTell.{none_unless}
+use Rattle.flow_link.proofs.TestsTell.{none_unless}
 use Rattle.flow_outlet.proofs.StagesTell.{number_same}
 
 -- Lists of ends

@@ -18,7 +18,7 @@ use Rattle.flow_block_law.specs.Copier.{Copier, copier_start}
 use Rattle.flow_block.specs.Planned.{is_out_of, links_from, rule_of, out_place}
 use Rattle.flow_block_law.proofs.CopierHolds.{copies_lawful, rule_is}
 use Rattle.flow_block_law.proofs.PlacesOfLinks.{there_at_source}
-use Rattle.flow_lists.proofs.PlacesOfNumbers.{place_below}
+use Rattle.flow_link.proofs.PlacesOfNumbers.{place_below}
 
 -- Any calls
 

@@ -10,7 +10,7 @@ use Rattle.flow_link.specs.declared.stage.SourceStage.TheVariants as source
 use Rattle.flow_link.specs.declared.trace.Outcome.{Outcome}
 use Rattle.flow_link.specs.Layout.{Layout}
 use Rattle.flow_link.specs.Plan.{is_write_once}
-use Rattle.flow_lists.proofs.ListTests.{never_both}
+use Rattle.flow_link.proofs.ListTests.{never_both}
 use Rattle.flow_outlet.specs.End.{is_free, is_waiting, is_cut}
 use Rattle.flow_outlet.specs.Outlet.{is_empty, end_of, end_by, is_at_rest as outlet_rest}
 use Rattle.flow_outlet.proofs.StagesTell.{free_is}

@@ -9,7 +9,7 @@ use Rattle.flow_link.proofs.KindsTell.{kind_tells}
 use Rattle.flow_intake.proofs.CountsOfEnds.{hand_comes}
 use Rattle.flow_intake.specs.Port.{stage_at as port_stage, is_hand}
 use Rattle.flow_block_law.proofs.GoingOn.{open_goes_on}
-use Rattle.flow_lists.proofs.ListTests.{never_both}
+use Rattle.flow_link.proofs.ListTests.{never_both}
 use Rattle.flow_intake.specs.Calls.{first_of}
 use Rattle.flow_outlet.specs.Outlet.{head_of}
 use Rattle.flow_spread.specs.Spread.{fresh_spread}

@@ -14,13 +14,13 @@ use Rattle.flow_link.specs.declared.trace.Outcome.{Outcome}
 use Rattle.flow_link.specs.declared.trace.Outcome.TheVariants.{Done, Faulted}
 use Rattle.flow_lawful.specs.Composes.{Ends, is_done_with}
 use Rattle.flow_link.specs.Layout.{Layout}
-use Rattle.flow_lists.specs.Lists.{is_empty as is_none_left}
+use Rattle.flow_link.specs.Lists.{is_empty as is_none_left}
 use Rattle.flow_link.specs.Plan.{is_write_once, is_broadcast}
 use Rattle.flow_lawful.specs.Quiet.{first_of as first_left, head_as, head_from, admits_head, has_served_all}
 use Rattle.flow_lawful.specs.RestsByParts.{is_to_hand_over, is_wished_for, is_over as is_view_over}
 use Rattle.flow_link.specs.Stage.{source_stage_of}
 use Rattle.flow_link.specs.Trace.{Run, gave_over, given_over, is_faulted, is_done, is_used_up, is_cut as is_run_cut, block_of, link_of, marks_of, left_at}
-use Rattle.flow_lists.proofs.ListTests.{never_both}
+use Rattle.flow_link.proofs.ListTests.{never_both}
 use Rattle.flow_link.proofs.LinksLaidOut.{none_step}
 use Rattle.flow_outlet.specs.declared.ends.LinkRule.{LinkRule}
 use Rattle.flow_outlet.specs.declared.ends.OutEnd.{OutEnd}
@@ -39,7 +39,7 @@ use Rattle.flow_block.specs.Copies.{copies_left, none_waits, may_put}
 use Rattle.flow_block_law.specs.CopiesSeen.{IsCopierOf, NoCopyMoves, CopiesAtRest, CopierStill, CopierRests, CopiersAreStill, CopiersRest}
 use Rattle.flow_block_law.specs.NextCopies.{next_copy}
 use Rattle.flow_block.specs.Node.{NodeState}
-use Rattle.flow_block_law.specs.NodeRests.{rests_out}
+use Rattle.flow_link.specs.Stage.{rests_out}
 use Rattle.flow_block.specs.Peeks.{is_pending, would_copy, is_copy_held_up}
 use Rattle.flow_block.specs.Planned.{rule_of, out_place}
 use Rattle.flow_block_law.proofs.CopierHolds.{copies_lawful, none_left}
@@ -47,7 +47,8 @@ use Rattle.flow_block_law.proofs.CopiesCalled.{once_is}
 use Rattle.flow_block_law.proofs.CopiesGoOn.{owing_goes, offers_so}
 use Rattle.flow_block_law.proofs.CopiesSeen.{by_copier, count_none, law, copying, marks_are, of_marks, left_is, has_end, stage_is, given_is, has_copies, done_so}
 use Rattle.flow_block_law.proofs.EndsAtRest.{rests_away, over_unless, not_cut, not_stopped}
-use Rattle.flow_block_law.proofs.EndsTell.{limit_is, no_room_left, free_back}
+use Rattle.flow_block_law.proofs.EndsTell.{limit_is, no_room_left}
+use Rattle.flow_link.proofs.StagesKept.{free_back}
 use Rattle.flow_block_law.proofs.JournalTells.{stopped_tells, faulted_marked}
 
 -- What an end tells that has no move

@@ -15,13 +15,13 @@ use Rattle.flow_link.specs.declared.trace.Outcome.{Outcome}
 use Rattle.flow_link.specs.declared.trace.Outcome.TheVariants.{Done}
 use Rattle.flow_lawful.specs.Composes.{Ends, SourceKeeps, as_seen, is_refused_stage}
 use Rattle.flow_link.specs.Copies.{broadcasts, broadcasts_over, writes_once, gives_it_once, is_served, copies_as, carried_of}
-use Rattle.flow_lists.specs.Lists.{every, is_empty, is_front, is_subsequence, same_values, without_last}
+use Rattle.flow_link.specs.Lists.{every, is_empty, is_front, is_subsequence, same_values, without_last}
 use Rattle.flow_link.specs.Making.{worked, makes_as, load_as}
 use Rattle.flow_link.specs.Plan.{is_one_taker, is_write_once, is_reserving, reserves_by_kind, begins_at, is_steady, is_sole}
 use Rattle.flow_link.specs.Stage.{source_stage_of}
 use Rattle.flow_link.specs.Trace.{BlockTrace, Run, took, gave_over, given_by, given_over, has_fault, is_done, is_faulted, is_cut, is_used_up, block_of, link_of, link_numbers, marks_of, held_at, left_at}
 use Rattle.flow_link.specs.Views as views
-use Rattle.flow_lists.proofs.ListTests.{never_both, every_below, front_without, same_values_where, or_others, or_not}
+use Rattle.flow_link.proofs.ListTests.{never_both, every_below, front_without, same_values_where, or_others, or_not}
 use Rattle.flow_intake.specs.Port.{PortState, fresh_port}
 use Rattle.flow_outlet.specs.declared.ends.LinkRule.{LinkRule}
 use Rattle.flow_outlet.specs.declared.ends.OutEnd.{OutEnd}
@@ -46,7 +46,8 @@ use Rattle.flow_block.specs.Planned.{rule_of, out_place}
 use Rattle.flow_block_law.proofs.CopierHolds.{copies_lawful}
 use Rattle.flow_block_law.proofs.CopiesCalled.{elements as put_elements, once_is, count_is, newest_is, at_most_one, has, HasCopyEnd, copy_end_of}
 use Rattle.flow_block_law.proofs.CopiesTested.{part_passes, part_begins, carries_all_so, carries_first_so, served_so, only_one, newest_left_so}
-use Rattle.flow_block_law.proofs.EndsTell.{ended_complete, ended_fault, ended_plain, ended_stage, used_up_told, refused_told}
+use Rattle.flow_block_law.proofs.EndsTell.{ended_complete, ended_fault, ended_plain, used_up_told, refused_told}
+use Rattle.flow_link.proofs.StagesKept.{ended_stage}
 use Rattle.flow_block_law.proofs.JournalTells.{stopped_tells, done_marked, fault_marked}
 use Rattle.flow_block_law.proofs.PlacesOfLinks.{source_there}
 

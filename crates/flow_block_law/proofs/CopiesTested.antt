@@ -5,8 +5,8 @@ use Rattle.std.proofs.lemmas.List.{length-append}
 use Rattle.std.proofs.Math.Seq.{drop-append_seam}
 use Rattle.flow_value.specs.Same.{same_value}
 use Rattle.flow_value.specs.declared.value.Value.{Value}
-use Rattle.flow_lists.specs.Lists.{is_empty, is_front, is_subsequence, same_values, without_last}
-use Rattle.flow_lists.proofs.ListTests.{never_both, same_value_refl, same_values_where, front_append, front_refl, front_without}
+use Rattle.flow_link.specs.Lists.{is_empty, is_front, is_subsequence, same_values, without_last}
+use Rattle.flow_link.proofs.ListTests.{never_both, same_value_refl, same_values_where, front_append, front_refl, front_without}
 use Rattle.flow_outlet.specs.declared.ends.LinkRule.{LinkRule}
 use Rattle.flow_outlet.specs.History.{listed}
 use Rattle.flow_outlet.specs.Outlet.{first_of}

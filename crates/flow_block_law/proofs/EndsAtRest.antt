@@ -13,7 +13,7 @@ use Rattle.flow_link.specs.declared.trace.Outcome.{Outcome}
 use Rattle.flow_lawful.specs.RestsByParts.{is_over as is_view_over}
 use Rattle.flow_link.specs.Stage.{source_stage_of}
 use Rattle.flow_link.specs.Views.{LinkFacts}
-use Rattle.flow_lists.proofs.ListTests.{never_both}
+use Rattle.flow_link.proofs.ListTests.{never_both}
 use Rattle.flow_link.proofs.LinksLaidOut.{none_step}
 use Rattle.flow_intake.specs.Calls.{is_postponed, in_move, next_place, is_at as is_place, move_at as move_in}
 use Rattle.flow_intake.specs.Port.{PortState, stage_at as port_stage, is_coming, is_queued, has_room}
@@ -22,7 +22,8 @@ use Rattle.flow_intake.proofs.ProfileHolds.{oldest_first}
 use Rattle.flow_outlet.specs.End.{end_in, is_free, is_over, is_spoken_for, is_away, is_waiting, is_cut, speaks_of, count_at}
 use Rattle.flow_outlet.specs.Outlet.{OutletState, may_offer, end_of, is_at, free_move, move_at}
 use Rattle.flow_outlet.specs.declared.ends.OutEnd.{OutEnd}
-use Rattle.flow_block_law.specs.NodeRests.{rests_out, rests_in}
+use Rattle.flow_block_law.specs.NodeRests.{rests_in}
+use Rattle.flow_link.specs.Stage.{rests_out}
 
 -- Ends out
 

@@ -13,7 +13,7 @@ use Rattle.flow_link.specs.Layout.{Layout}
 use Rattle.flow_link.specs.Stage.{source_looks, target_looks}
 use Rattle.flow_link.specs.Trace.{has_complete, has_ended, is_complete_mark, is_any_fault_mark, is_done_mark}
 use Rattle.flow_link.proofs.KindsTell.{kind_tells}
-use Rattle.flow_lists.proofs.ListTests.{never_both}
+use Rattle.flow_link.proofs.ListTests.{never_both}
 use Rattle.flow_intake.specs.Port.{PortState, stage_at as port_stage, end_in, hand_in, is_offer, is_hand, is_holding}
 use Rattle.flow_intake.specs.Calls.{message_of, is_offered, is_posted, is_postponed, is_arrived, may_be_refused, first_of, refused_by, wants, turns_down, postpones, refuses, consumes, asks, claims, releases, opens, closes, looks as port_looks, takes_next, gives_room, port_closes, port_fails}
 use Rattle.flow_intake.proofs.CountsOfEnds.{hand_comes}
@@ -41,7 +41,7 @@ use Rattle.flow_block_law.proofs.WishesTell.{asks_so, claims_so, releases_so}
 use Rattle.flow_block_law.proofs.PortEnds.{PortEnds, end_moves, port_closed, port_failed, unseen_goes, refusal_unseen, refuses_so, look_goes, look_numbered, completes_by, completes_tells, unwritten_before, completes_more, fewer_complete, seen_unless}
 use Rattle.flow_block.proofs.PortsChange.{each_after_one, each_after_all}
 use Rattle.flow_block.proofs.RoomBack.{back_at, each_after_back}
-use Rattle.flow_lists.proofs.TestsTell.{some_last, every_map}
+use Rattle.flow_link.proofs.TestsTell.{some_last, every_map}
 use Rattle.flow_block_law.proofs.Joins.{tuple_at_all}
 use Rattle.flow_block_law.proofs.GroupPorts.{each_after_group, waiting_at_all}
 use Rattle.flow_block.specs.Groups.{makes_group}

@@ -7,7 +7,7 @@ use Rattle.flow_link.specs.declared.draft.BlockKind.{BlockKind}
 use Rattle.flow_link.specs.declared.trace.Mark.{Mark}
 use Rattle.flow_link.specs.declared.trace.Outcome.{Outcome}
 use Rattle.flow_link.specs.Layout.{Layout}
-use Rattle.flow_lists.specs.Lists.{every, some, below}
+use Rattle.flow_link.specs.Lists.{every, some, below}
 use Rattle.flow_link.specs.Trace.{has_complete, has_fault, has_ended, is_done, took}
 use Rattle.flow_intake.specs.Port.{EndState, PortState, stage_at as port_stage, fresh_end, fresh_port}
 use Rattle.flow_outlet.specs.Outlet.{OutletState, is_empty, is_at_rest}
@@ -20,7 +20,7 @@ use Rattle.flow_block_law.proofs.JournalTells.{goes_on, not_faulted_so}
 use Rattle.flow_group.specs.Tuple.{has_tuple}
 use Rattle.flow_block_law.proofs.PortEnds.{PortEnds, StageGoes, end_moves, completes_by, completes_tells}
 use Rattle.flow_block.proofs.PortsChange.{kept_at_one, each_after_one}
-use Rattle.flow_lists.proofs.TestsTell.{some_set, every_set, some_map, every_map}
+use Rattle.flow_link.proofs.TestsTell.{some_set, every_set, some_map, every_map}
 use Rattle.flow_block_law.proofs.Joins.{tuple_at_one}
 use Rattle.flow_block_law.proofs.GroupPorts.{waiting_at_one}
 use Rattle.flow_block.specs.Groups.{has_group_at, waiting_in_all}

@@ -8,9 +8,9 @@ use Rattle.flow_link.specs.declared.trace.Mark.{Mark}
 use Rattle.flow_link.specs.declared.trace.Mark.TheVariants.{Fault, Done}
 use Rattle.flow_link.specs.declared.trace.Outcome.{Outcome}
 use Rattle.flow_link.specs.Layout.{Layout}
-use Rattle.flow_lists.specs.Lists.{every, below}
+use Rattle.flow_link.specs.Lists.{every, below}
 use Rattle.flow_link.specs.Trace.{has_complete, has_ended, is_complete_mark, is_fault_mark, is_any_fault_mark, is_done_mark}
-use Rattle.flow_lists.proofs.ListTests.{every_below}
+use Rattle.flow_link.proofs.ListTests.{every_below}
 use Rattle.flow_link.proofs.OneMoreMark.{some_of_more, some_no_more, took_no_more}
 use Rattle.flow_intake.specs.Port.{PortState, fresh_port}
 use Rattle.flow_intake.specs.PortLaw.{has_ended as has_port_ended}
@@ -28,7 +28,7 @@ use Rattle.flow_group.specs.Tuple.{is_join_complete}
 use Rattle.flow_block_law.proofs.JoinsEnd.{join_has_ended}
 use Rattle.flow_block_law.proofs.PortEnds.{PortEnds, port_closed, completes_by, completes_more}
 use Rattle.flow_block.proofs.PortsChange.{kept_at_all, each_after_all}
-use Rattle.flow_lists.proofs.TestsTell.{every_tells, some_last, some_map, every_map}
+use Rattle.flow_link.proofs.TestsTell.{every_tells, some_last, some_map, every_map}
 use Rattle.flow_block.proofs.NothingLeft.{none_left}
 use Rattle.flow_block_law.proofs.Joins.{tuple_at_all}
 use Rattle.flow_block_law.proofs.GroupPorts.{waiting_at_all}

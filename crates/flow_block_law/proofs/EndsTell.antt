@@ -4,8 +4,6 @@ use Rattle.std.proofs.lemmas.Bool.Decides.{nat_tests}
 use Rattle.flow_value.specs.declared.value.Value.{Value}
 use Rattle.flow_link.specs.declared.phase.LinkEnd.{LinkEnd}
 use Rattle.flow_link.specs.declared.phase.LinkEnd.TheVariants as link_end
-use Rattle.flow_link.specs.declared.phase.Phase.{Phase}
-use Rattle.flow_link.specs.declared.phase.Phase.TheVariants as phase
 use Rattle.flow_link.specs.declared.stage.Refusal.{Refusal}
 use Rattle.flow_link.specs.declared.stage.SourceStage.{SourceStage}
 use Rattle.flow_link.specs.declared.stage.SourceStage.TheVariants as source
@@ -17,7 +15,7 @@ use Rattle.flow_link.specs.LinkOk.{HasRoom}
 use Rattle.flow_lawful.specs.RestsByParts.{is_postponed as is_view_postponed, has_seen_end}
 use Rattle.flow_lawful.specs.Composes.{has_seen_completion, has_seen_fault, is_spoken_for, is_refused_stage, is_coming}
 use Rattle.flow_lawful.specs.Endings.{is_number}
-use Rattle.flow_link.specs.Stage.{source_stage_of, target_stage_of, refusal_of, source_looks}
+use Rattle.flow_link.specs.Stage.{source_stage_of, target_stage_of, refusal_of}
 use Rattle.flow_link.specs.Trace.{is_used_up}
 use Rattle.flow_link.specs.Views as views
 use Rattle.flow_intake.specs.Calls.{is_postponed}
@@ -26,7 +24,6 @@ use Rattle.flow_intake.specs.Ended.{is_completion, fault_seen}
 use Rattle.flow_outlet.specs.End.{is_limit, is_spoken_for as is_head_spoken_for}
 use Rattle.flow_outlet.specs.Law.{is_posted, is_refused}
 use Rattle.flow_outlet.specs.Outlet.{end_by}
-use Rattle.flow_block_law.specs.NodeLaw.{is_kept}
 
 -- an end ends as its block stopped, or plainly where it is cut
 pub ended_complete : (cut passes : Bool) (stopped : Option Outcome)
@@ -72,15 +69,6 @@ no_room_left None given limit room = cc
 no_room_left (Some max) given limit room = grind (arith, nat_tests)
 
 -- what a stage says, as the model names it
-pub ended_stage : (stage : SourceStage) (how : LinkEnd) → source_stage_of stage ≡ views.SourceStage.ended how
-    → stage ≡ source.Ended how
-ended_stage (source.Ended other) how e = let same : other ≡ how = cc in ap source.Ended same
-ended_stage _ how e = absurd (cc)
-
-pub free_back : (stage : SourceStage) → source_stage_of stage ≡ views.SourceStage.free → stage ≡ source.Free
-free_back source.Free e = refl
-free_back _ e = absurd (cc)
-
 pub refused_told : (stage : SourceStage) → is_refused stage ≡ true → is_refused_stage (source_stage_of stage) ≡ true
 refused_told source.Refused e = refl
 refused_told _ e = absurd (cc)
@@ -92,14 +80,6 @@ spoken_for_told (source.Accepted i) posted e = refl
 spoken_for_told (source.Reserved i) posted e = refl
 spoken_for_told (source.Claimed i) posted e = refl
 spoken_for_told _ posted e = absurd (cc)
-
--- a look finds no message kept that was not
-pub none_kept_by_looks : (stage : SourceStage) (phase : Phase) → is_kept stage ≡ false
-    → is_kept (source_looks stage phase) ≡ false
-none_kept_by_looks (source.Reserved i) phase none = absurd (cc)
-none_kept_by_looks (source.Claimed i) phase none = absurd (cc)
-none_kept_by_looks _ phase.Idle none = refl
-none_kept_by_looks _ _ none = refl
 
 pub record IsRefusal (stage : TargetStage) (why : views.Refusal) : Type 0 where
   pub reason : Refusal

@@ -17,7 +17,7 @@ use Rattle.flow_link.specs.declared.kinds.BlockUnit.{BlockUnit}
 use Rattle.flow_link.specs.declared.kinds.BlockUnit.TheVariants as unit
 use Rattle.flow_link.specs.Kinds.{unit_of}
 use Rattle.flow_link.proofs.KindsTell.{row_is, tuple_is}
-use Rattle.flow_lists.proofs.ListTests.{or_weaker}
+use Rattle.flow_link.proofs.ListTests.{or_weaker}
 use Rattle.flow_intake.specs.Port.{EndState, PortState, stage_at as port_stage, is_offer, is_hand, is_holding}
 use Rattle.flow_intake.specs.Calls.{first_of, is_offered, is_posted, is_postponed, is_arrived, may_be_refused, wants, turns_down, postpones, refuses, consumes, asks, claims, releases, opens, closes, looks as port_looks, takes_next, gives_room, port_closes}
 use Rattle.flow_intake.specs.Ended.{fault_seen, fault_at_ends}

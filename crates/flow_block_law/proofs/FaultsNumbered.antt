@@ -5,7 +5,7 @@ use Rattle.flow_link.specs.declared.draft.BlockKind.{BlockKind}
 use Rattle.flow_link.specs.declared.draft.BlockKind.TheVariants.{Transform}
 use Rattle.flow_link.specs.declared.trace.Outcome.TheVariants.{Faulted}
 use Rattle.flow_lawful.specs.Endings.{is_number}
-use Rattle.flow_lists.specs.Lists.{some}
+use Rattle.flow_link.specs.Lists.{some}
 use Rattle.flow_link.specs.Layout.{Layout}
 use Rattle.flow_link.specs.Making.{result_of}
 use Rattle.flow_link.specs.Plan.{block_in}
@@ -17,7 +17,7 @@ use Rattle.flow_block.specs.Node.{NodeState}
 use Rattle.flow_block_law.specs.NodeLaw.{NodeLaw, is_fault_seen}
 use Rattle.flow_block_law.proofs.FaultsSeen.{sees_at}
 use Rattle.flow_block_law.proofs.JournalTells.{fault_marked}
-use Rattle.flow_lists.proofs.TestsTell.{some_tells}
+use Rattle.flow_link.proofs.TestsTell.{some_tells}
 
 -- a result that is not one value is no fault 0
 pub made_by_number : (kind : BlockKind) (result : Result (List Value) ℕ) → result ≢ Err 0 → result_of kind result ≢ Err 0

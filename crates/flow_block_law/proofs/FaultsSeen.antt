@@ -6,9 +6,9 @@ use Rattle.flow_link.specs.declared.phase.Phase.{Phase}
 use Rattle.flow_link.specs.declared.stage.TargetStage.{TargetStage}
 use Rattle.flow_link.specs.declared.stage.TargetStage.TheVariants as target
 use Rattle.flow_lawful.specs.Endings.{is_number}
-use Rattle.flow_lists.specs.Lists.{some}
+use Rattle.flow_link.specs.Lists.{some}
 use Rattle.flow_link.specs.Stage.{target_looks}
-use Rattle.flow_lists.proofs.ListTests.{never_both, or_weaker}
+use Rattle.flow_link.proofs.ListTests.{never_both, or_weaker}
 use Rattle.flow_intake.specs.Port.{EndState, PortState, end_in, link_in, stage_in}
 use Rattle.flow_intake.specs.Ended.{is_completion, fault_seen, came_over, fault_over, first_some, of_lower_link, fault_at_ends}
 use Rattle.flow_block.specs.Block.{port_in}

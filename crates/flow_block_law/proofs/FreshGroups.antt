@@ -1,7 +1,7 @@
 -- A block with several ports in which nothing has happened has made nothing.
 use Rattle.std.proofs.Common.{◌≡◌, ℕ, zero, suc, List, [], ◌∷◌, length, map, refl}
 use Rattle.flow_link.specs.Layout.{Layout}
-use Rattle.flow_lists.specs.Lists.{below}
+use Rattle.flow_link.specs.Lists.{below}
 use Rattle.flow_link.specs.Plan.{block_in, port_count}
 use Rattle.flow_link.specs.Trace.{took_at}
 use Rattle.flow_intake.specs.Port.{PortState}

@@ -10,10 +10,10 @@ use Rattle.flow_link.specs.declared.stage.TargetStage.TheVariants.{Refused}
 use Rattle.flow_link.specs.Facts.{facts_in}
 use Rattle.flow_link.specs.Layout.{Layout}
 use Rattle.flow_link.specs.LinkOk.{IsWithin}
-use Rattle.flow_lists.specs.Lists.{numbers_from, below}
+use Rattle.flow_link.specs.Lists.{numbers_from, below}
 use Rattle.flow_link.specs.Plan.{block_in, port_count, is_one_taker, is_write_once}
 use Rattle.flow_link.specs.Trace.{has_ended}
-use Rattle.flow_lists.proofs.ListTests.{length_numbers}
+use Rattle.flow_link.proofs.ListTests.{length_numbers}
 use Rattle.flow_intake.specs.Port.{EndState, PortState, fresh_end, end_in, stage_at as port_stage, is_coming, coming}
 use Rattle.flow_intake.specs.PortLaw.{InLaw, PortLaw, has_ended as has_port_ended}
 use Rattle.flow_intake.specs.Ended.{fault_seen}

@@ -16,11 +16,11 @@ use Rattle.flow_link.specs.declared.trace.Outcome.{Outcome}
 use Rattle.flow_link.specs.JournalGrows.{given_by_mark}
 use Rattle.flow_lawful.specs.Law.{is_passed, gives_in_order}
 use Rattle.flow_link.specs.Layout.{Layout}
-use Rattle.flow_lists.specs.Lists.{every, below}
+use Rattle.flow_link.specs.Lists.{every, below}
 use Rattle.flow_link.specs.Plan.{begins_at, link_in, no_link, is_steady, is_one_taker}
 use Rattle.flow_link.specs.Trace.{Run, gave, gave_over, is_used_up}
 use Rattle.flow_link.proofs.JournalsGrow.{gave_more}
-use Rattle.flow_lists.proofs.ListTests.{every_below, every_weaker, and_weaker, or_weaker, never_both}
+use Rattle.flow_link.proofs.ListTests.{every_below, every_weaker, and_weaker, or_weaker, never_both}
 use Rattle.flow_link.proofs.OneMoreMark.{every_more, gave_by_gave}
 use Rattle.flow_intake.specs.Calls.{first_of}
 use Rattle.flow_outlet.specs.declared.ends.LinkRule.{LinkRule}
@@ -46,7 +46,7 @@ use Rattle.flow_block_law.proofs.JournalTells.{gave_same, gave_here, passed_by}
 use Rattle.flow_block_law.proofs.KindsBuilt.{makes_by, next_by}
 use Rattle.flow_block_law.proofs.PlacesOfLinks.{end_out_of, shares_at, source_there, links_out_differ, earlier_out}
 use Rattle.flow_block_law.proofs.ShapeHolds.{shape_kept}
-use Rattle.flow_lists.proofs.TestsTell.{some_where, some_set}
+use Rattle.flow_link.proofs.TestsTell.{some_where, some_set}
 
 -- What the marks tell of an order
 

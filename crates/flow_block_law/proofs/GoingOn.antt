@@ -13,7 +13,7 @@ use Rattle.flow_link.specs.Trace.{has_complete}
 use Rattle.flow_link.specs.declared.kinds.BlockUnit.{BlockUnit}
 use Rattle.flow_link.specs.declared.kinds.BlockUnit.TheVariants as unit
 use Rattle.flow_link.specs.Kinds.{unit_of}
-use Rattle.flow_lists.proofs.ListTests.{never_both}
+use Rattle.flow_link.proofs.ListTests.{never_both}
 use Rattle.flow_link.proofs.KindsTell.{row_is, tuple_is, group_is}
 use Rattle.flow_intake.specs.Port.{coming}
 use Rattle.flow_intake.specs.PortLaw.{has_ended}
@@ -29,7 +29,7 @@ use Rattle.flow_block.specs.Jobs.{out_count}
 use Rattle.flow_block.specs.Peeks.{could_stop, is_out_at_rest, is_copied_out, has_group, has_next, may_work, may_begin, may_make, may_complete, next_fault, may_finish, fault_cause, nothing_comes, holds_nothing, is_complete, has_group_of_ports, is_written, has_unit}
 use Rattle.flow_block_law.specs.NodeLaw.{EndsLaw, outcome_in}
 use Rattle.flow_block_law.proofs.JournalTells.{open_tells}
-use Rattle.flow_lists.proofs.TestsTell.{none_is, none_unless}
+use Rattle.flow_link.proofs.TestsTell.{none_is, none_unless}
 
 -- what counts nothing, and its elements
 none_counted : (b : Bool) (n : ℕ) → (cond b 1 0 + n == 0) ≡ true → (b ≡ false) × ((n == 0) ≡ true)

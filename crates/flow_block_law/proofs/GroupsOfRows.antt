@@ -6,7 +6,7 @@ use Rattle.flow_value.specs.declared.value.Value.{Value}
 use Rattle.flow_link.specs.declared.trace.Mark.{Mark}
 use Rattle.flow_link.specs.declared.trace.Mark.TheVariants.{Took, Gave, Complete, Fault, Done}
 use Rattle.flow_link.specs.JournalGrows.{given_by_mark}
-use Rattle.flow_lists.specs.Lists.{every}
+use Rattle.flow_link.specs.Lists.{every}
 use Rattle.flow_link.specs.Making.{are_groups, row_weight, before_complete}
 use Rattle.flow_link.specs.Trace.{gave, has_complete}
 use Rattle.flow_link.proofs.OneMoreMark.{every_more}

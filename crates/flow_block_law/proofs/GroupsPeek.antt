@@ -1,7 +1,7 @@
 -- The ports of a batched join tell how many of its messages are in no group.
 use Rattle.std.proofs.Common.{◌≡◌, ◌≢◌, ℕ, zero, suc, ◌+◌, ◌<◌, ◌≤◌, ◌==◌, leb, ltb, not, cond, Bool, true, false, ◌&&◌, ◌||◌, List, [], ◌∷◌, ◌++◌, length, map, refl, ap, sym, ◌∙◌, arith}
 use Rattle.std.proofs.lemmas.Bool.{and_parts, eqb-true, eqb-false, ltb-true, lt-ltb, ne_eqb}
-use Rattle.flow_lists.specs.Lists.{every, is_empty, concat}
+use Rattle.flow_link.specs.Lists.{every, is_empty, concat}
 use Rattle.flow_link.specs.Making.{Arrival, arrivals}
 use Rattle.flow_link.specs.Trace.{gave}
 use Rattle.flow_intake.specs.Port.{PortState}

@@ -5,7 +5,7 @@ use Rattle.std.proofs.lemmas.List.Sums.{sum-map, sum_by-cons}
 use Rattle.flow_value.specs.declared.value.Value.{Value}
 use Rattle.flow_link.specs.declared.draft.BlockKind.TheVariants.{BatchedJoin}
 use Rattle.flow_link.specs.Layout.{Layout}
-use Rattle.flow_lists.specs.Lists.{every, below, numbers_from, is_empty}
+use Rattle.flow_link.specs.Lists.{every, below, numbers_from, is_empty}
 use Rattle.flow_link.specs.Making.{group_size, load_as, all_items, column}
 use Rattle.flow_link.specs.Plan.{block_in, port_count}
 use Rattle.flow_lawful.specs.Quiet.{held_in_all, holds_nothing, all_completed, has_no_group}

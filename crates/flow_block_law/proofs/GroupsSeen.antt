@@ -9,10 +9,10 @@ use Rattle.flow_link.specs.declared.trace.Mark.TheVariants.{Took, Complete, Faul
 use Rattle.flow_lawful.specs.Endings.{is_complete_as}
 use Rattle.flow_link.specs.JournalGrows.{given_by_mark}
 use Rattle.flow_link.specs.Layout.{Layout}
-use Rattle.flow_lists.specs.Lists.{every, below, is_empty}
+use Rattle.flow_link.specs.Lists.{every, below, is_empty}
 use Rattle.flow_link.specs.Making.{Arrival, arrivals, are_cut, are_groups, rows_weight, before_complete, whole_until, outputs, group_size, batched_join_makes}
 use Rattle.flow_link.specs.Trace.{BlockTrace, Run, gave, has_complete, marks_of, held_at, left_at, ports_of}
-use Rattle.flow_lists.proofs.ListTests.{every_below, passes_below}
+use Rattle.flow_link.proofs.ListTests.{every_below, passes_below}
 use Rattle.flow_intake.specs.Port.{PortState, fresh_port, hand_in}
 use Rattle.flow_outlet.specs.Outlet.{head_of, rest_of}
 use Rattle.flow_group.specs.Groups.{GroupsLaw, is_whole}

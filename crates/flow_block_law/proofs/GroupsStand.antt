@@ -12,7 +12,7 @@ use Rattle.flow_link.specs.JournalGrows.{given_by_mark}
 use Rattle.flow_link.specs.Layout.{Layout}
 use Rattle.flow_link.specs.Making.{arrivals}
 use Rattle.flow_link.specs.Trace.{gave, has_complete, is_complete_mark}
-use Rattle.flow_lists.proofs.ListTests.{every_weaker_below, never_both, passes_below}
+use Rattle.flow_link.proofs.ListTests.{every_weaker_below, never_both, passes_below}
 use Rattle.flow_link.proofs.OneMoreMark.{some_before, some_no_more, gave_no_more, gave_by_took, gave_by_gave}
 use Rattle.flow_intake.specs.Port.{PortState, hand_in}
 use Rattle.flow_intake.specs.Calls.{put_hand, wants, turns_down, postpones, refuses, consumes, asks, claims, releases, opens, closes, looks as port_looks, port_closes}

@@ -10,7 +10,7 @@ use Rattle.flow_link.specs.Layout.{Layout}
 use Rattle.flow_link.specs.Plan.{has_work, is_broadcast}
 use Rattle.flow_link.specs.declared.kinds.BlockUnit.{BlockUnit}
 use Rattle.flow_link.proofs.KindsTell.{kind_tells, works_on_messages}
-use Rattle.flow_lists.proofs.ListTests.{never_both}
+use Rattle.flow_link.proofs.ListTests.{never_both}
 use Rattle.flow_intake.specs.Port.{PortState, end_in}
 use Rattle.flow_intake.specs.Calls.{first_of, port_fails}
 use Rattle.flow_outlet.specs.End.{end_in as out_end}
@@ -33,7 +33,7 @@ use Rattle.flow_block_law.proofs.MakesHold.{jobs_change as makes_stay}
 use Rattle.flow_block_law.proofs.NodesKept.{nodes_kept}
 use Rattle.flow_block.proofs.PortsChange.{kept_at_all}
 use Rattle.flow_block_law.proofs.ShapeHolds.{exits_move as shape_stays}
-use Rattle.flow_lists.proofs.TestsTell.{none_is}
+use Rattle.flow_link.proofs.TestsTell.{none_is}
 use Rattle.flow_block.proofs.ResultsKept.{keeps_goes, ports_stay, held_then}
 use Rattle.flow_block_law.proofs.EndsStay.{EndsStay, keeping_stays, yielding_stays}
 

@@ -7,7 +7,7 @@ use Rattle.flow_link.specs.Plan.{has_work}
 use Rattle.flow_link.specs.declared.kinds.BlockUnit.{BlockUnit}
 use Rattle.flow_link.specs.declared.kinds.BlockUnit.TheVariants as unit
 use Rattle.flow_link.specs.Kinds.{unit_of, makes_rows, makes_tuples, makes_groups}
-use Rattle.flow_lists.proofs.ListTests.{never_both}
+use Rattle.flow_link.proofs.ListTests.{never_both}
 use Rattle.flow_block.specs.Block.{BlockState, held_by, is_batch, is_join, is_batched_join}
 use Rattle.flow_block.specs.Jobs.{Slot, JobsState, no_slot, out_count, is_out, is_front_back}
 use Rattle.flow_outlet.specs.Outlet.{is_empty}

@@ -8,13 +8,13 @@ use Rattle.flow_link.specs.declared.trace.Outcome.TheVariants as outcome
 use Rattle.flow_lawful.specs.Endings.{stops, completes_once}
 use Rattle.flow_link.specs.JournalGrows.{taken_by_mark, given_by_mark}
 use Rattle.flow_lawful.specs.Law.{is_own_mark}
-use Rattle.flow_lists.specs.Lists.{every, is_empty}
+use Rattle.flow_link.specs.Lists.{every, is_empty}
 use Rattle.flow_link.specs.Trace.{Run, took_at, took_where, gave_where, has_complete, has_fault, has_ended, is_faulted, is_done, is_complete_mark, is_any_fault_mark, is_done_mark, ports_of}
 use Rattle.flow_link.proofs.JournalsGrow.{took_more, gave_more}
 use Rattle.flow_link.proofs.OneMoreMark.{some_no_more}
-use Rattle.flow_lists.proofs.ListTests.{or_others}
+use Rattle.flow_link.proofs.ListTests.{or_others}
 use Rattle.flow_block_law.specs.NodeLaw.{stops_at, first_stop, outcome_in}
-use Rattle.flow_lists.proofs.TestsTell.{none_unless}
+use Rattle.flow_link.proofs.TestsTell.{none_unless}
 
 -- How a block stopped
 

@@ -46,7 +46,7 @@ use Rattle.flow_block_law.proofs.Joins.{join_weighs, others_at_one}
 use Rattle.flow_block_law.proofs.ShapeHolds.{same_kind}
 use Rattle.flow_block_law.proofs.PlacesCounted.{weighs_copied, none_copied_yet, is_action, made_is_one, none_back, more_weight, one_place, many_places, gone_at, IsLeftSo, left_so, Counts, EachCounts, one_as_before, each_as_before, one_taken, one_goes}
 use Rattle.flow_group.specs.Tuple.{has_tuple, tuple_of}
-use Rattle.flow_lists.proofs.ListTests.{never_both}
+use Rattle.flow_link.proofs.ListTests.{never_both}
 
 module _ {W : Type 0} (layout : Layout W) (meaning : ℕ → Value → Result (List Value) ℕ) (b : ℕ) where
   abbrev limit : Option ℕ

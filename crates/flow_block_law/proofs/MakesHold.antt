@@ -21,7 +21,7 @@ use Rattle.flow_link.proofs.OneMoreWorked.{worked_more}
 use Rattle.flow_intake.specs.Port.{PortState, fresh_port, hand_in}
 use Rattle.flow_intake.specs.Calls.{first_of, wants, turns_down, postpones, refuses, consumes, asks, claims, releases, opens, closes, looks as port_looks, takes_next, gives_room, port_closes, port_fails}
 use Rattle.flow_outlet.specs.Outlet.{OutletState, first_of as first_left, rest_of, head_of, gives, prepares, offers, holds, denies, withdraws, ends_link, looks as exit_looks}
-use Rattle.flow_lists.proofs.ListTests.{never_both}
+use Rattle.flow_link.proofs.ListTests.{never_both}
 use Rattle.flow_link.specs.Plan.{is_one_taker}
 use Rattle.flow_block.specs.Copies.{copy_place, CopyCall, after_copy}
 use Rattle.flow_block_law.proofs.CopiesIdle.{copies_at}

@@ -6,10 +6,10 @@ use Rattle.flow_link.specs.declared.trace.Mark.{Mark}
 use Rattle.flow_link.specs.declared.trace.Mark.TheVariants.{Took, Gave, Complete, Fault, Done}
 use Rattle.flow_lawful.specs.Law.{is_own_mark}
 use Rattle.flow_link.specs.Layout.{Layout}
-use Rattle.flow_lists.specs.Lists.{below}
+use Rattle.flow_link.specs.Lists.{below}
 use Rattle.flow_link.specs.Plan.{block_in, link_in, port_count}
 use Rattle.flow_link.specs.Trace.{has_complete}
-use Rattle.flow_lists.proofs.ListTests.{length_numbers}
+use Rattle.flow_link.proofs.ListTests.{length_numbers}
 use Rattle.flow_link.proofs.OneMoreMark.{every_more}
 use Rattle.flow_intake.specs.Port.{stage_at as port_stage, hand_in, is_hand}
 use Rattle.flow_intake.proofs.CountsOfEnds.{hand_comes}

@@ -17,13 +17,13 @@ use Rattle.flow_link.specs.declared.stage.TargetStage.TheVariants as target
 use Rattle.flow_link.specs.declared.trace.Outcome.{Outcome}
 use Rattle.flow_link.specs.Facts.{facts_in}
 use Rattle.flow_link.specs.Layout.{Layout}
-use Rattle.flow_lists.specs.Lists.{is_empty}
+use Rattle.flow_link.specs.Lists.{is_empty}
 use Rattle.flow_link.specs.Plan.{block_in, link_in as plan_link, links_into, takes_at_once, is_write_once, is_reserving, is_steady, is_sole}
 use Rattle.flow_link.specs.PlanFaults.{options_fit, keys_fit, ranges_fit, is_in, is_name}
 use Rattle.flow_link.specs.Trace.{took_at}
 use Rattle.flow_link.specs.WellFormed.{IsWellFormed}
 use Rattle.flow_link.specs.declared.plan.LinkTarget.TheVariants.{Port}
-use Rattle.flow_lists.proofs.ListTests.{not_both}
+use Rattle.flow_link.proofs.ListTests.{not_both}
 use Rattle.flow_intake.specs.Port.{PortState, stage_at as port_stage, link_in, coming, has_room, is_below, is_offer, is_queued, is_coming, is_hand}
 use Rattle.flow_intake.specs.Calls.{first_of, in_move, next_where, answer_where, answer_to, move_of, move_at, is_at, next_place, is_offered, is_posted, is_postponed, is_arrived, may_be_refused}
 use Rattle.flow_intake.specs.PortLaw.{PortLaw, AreBelow, puts_off, is_in as is_in_queue}
@@ -48,7 +48,7 @@ use Rattle.flow_block_law.proofs.CopiesGoOn.{next_copies_may}
 use Rattle.flow_block_law.proofs.EndsTell.{none_come}
 use Rattle.flow_block_law.proofs.FaultsSeen.{cause_pending}
 use Rattle.flow_block_law.proofs.PlacesOfLinks.{end_in_is, count_in, few_enter}
-use Rattle.flow_lists.proofs.TestsTell.{none_is}
+use Rattle.flow_link.proofs.TestsTell.{none_is}
 
 one_at_least : (n : ℕ) → (n ≡ 0 → ⊥) → 1 ≤ n
 one_at_least zero never = absurd (never refl)

@@ -16,7 +16,7 @@ use Rattle.flow_link.specs.Copies.{copies_as}
 use Rattle.flow_lawful.specs.Endings.{own_fault, is_number, is_complete, has_nothing, stops, completes_once, is_complete_as}
 use Rattle.flow_lawful.specs.Law.{is_own_mark, has_own_marks, has_room_for, is_level, takes_level, keeps_link_order}
 use Rattle.flow_link.specs.LinkOk.{IsWithin}
-use Rattle.flow_lists.specs.Lists.{every, some, below, is_empty, numbers_from}
+use Rattle.flow_link.specs.Lists.{every, some, below, is_empty, numbers_from}
 use Rattle.flow_link.specs.Making.{load}
 use Rattle.flow_link.specs.Plan.{ends_at, ends_at_port, is_one_taker, is_reserving, port_count, is_write_once}
 use Rattle.flow_link.specs.Stage.{target_stage_of, refusal_of}
@@ -26,7 +26,7 @@ use Rattle.flow_link.proofs.KindsTell.{kind_tells}
 use Rattle.flow_block_law.proofs.OnceHolds.{room_once}
 use Rattle.flow_block_law.proofs.WrittenOnce.{message_is, written_weighs}
 use Rattle.flow_link.proofs.RoundsOfWalks.{some_here_below}
-use Rattle.flow_lists.proofs.ListTests.{or_not, every_below, length_numbers}
+use Rattle.flow_link.proofs.ListTests.{or_not, every_below, length_numbers}
 use Rattle.flow_intake.specs.Port.{EndState, PortState, end_in, fresh_end, fresh_port, coming as coming_at, is_coming as is_coming_at}
 use Rattle.flow_intake.specs.PortLaw.{has_ended as has_port_ended}
 use Rattle.flow_intake.specs.Ended.{is_completion}
@@ -44,7 +44,7 @@ use Rattle.flow_block_law.proofs.NodesSeen.{held_is, none_held, own_fault_is, lo
 use Rattle.flow_block_law.proofs.PortsLevel.{is_near, level_at_end}
 use Rattle.flow_block_law.proofs.PlacesOfLinks.{IsEndIn, end_in_is, end_in_of, count_of_links, there_at_port, there_at_block}
 use Rattle.flow_block_law.proofs.SharersAreLawful.{left_is, makes_shared, copies_shared, order_shared, one_so, source_shared}
-use Rattle.flow_lists.proofs.TestsTell.{some_tells, every_tells}
+use Rattle.flow_link.proofs.TestsTell.{some_tells, every_tells}
 use Rattle.flow_block.specs.Peeks.{holds_nothing}
 
 -- what counts only where there is a capacity fits

@@ -18,7 +18,7 @@ use Rattle.flow_link.specs.Stage.{source_stage_of, target_stage_of}
 use Rattle.flow_link.specs.Trace.{Run, block_of, link_of}
 use Rattle.flow_link.specs.Views.{SourceView, TargetView}
 use Rattle.flow_link.proofs.RoundsOfWalks.{some_here_below}
-use Rattle.flow_lists.proofs.ListTests.{never_both}
+use Rattle.flow_link.proofs.ListTests.{never_both}
 use Rattle.flow_intake.specs.Port.{PortState, end_in, hand_in, stage_at as port_stage, is_holding as is_kept}
 use Rattle.flow_intake.specs.Calls.{first_of, answer_where, move_of, move_at as move_in}
 use Rattle.flow_group.specs.Round.{is_asking as is_asking_for, stage_from}

@@ -12,7 +12,7 @@ use Rattle.flow_lawful.specs.Composes.{Ends}
 use Rattle.flow_lawful.specs.Endings.{is_complete, has_nothing, is_complete_as}
 use Rattle.flow_link.specs.Facts.{facts_in}
 use Rattle.flow_link.specs.LinkOk.{IsWithin}
-use Rattle.flow_lists.specs.Lists.{every, some, below, is_empty as is_none_left}
+use Rattle.flow_link.specs.Lists.{every, some, below, is_empty as is_none_left}
 use Rattle.flow_link.specs.Making.{load, group_size}
 use Rattle.flow_link.specs.Plan.{port_count, ends_at_port, is_broadcast, is_one_taker, is_reserving, is_write_once}
 use Rattle.flow_lawful.specs.Quiet.{has_served_all, has_this_fault, faulted_by_itself, rests, rests_as, held_in_all, holds_nothing as run_holds_nothing, all_completed, has_no_group, is_done_if_can, is_full_with}
@@ -25,7 +25,7 @@ use Rattle.flow_link.proofs.RoundsOfWalks.{some_here_below}
 use Rattle.flow_block.specs.Copies.{copies_left}
 use Rattle.flow_block_law.proofs.OnceHolds.{room_once}
 use Rattle.flow_block_law.proofs.WrittenOnce.{message_is, weighs_written}
-use Rattle.flow_lists.proofs.ListTests.{never_both, passes_below, unless_done}
+use Rattle.flow_link.proofs.ListTests.{never_both, passes_below, unless_done}
 use Rattle.flow_intake.specs.Port.{EndState, PortState, fresh_port, fresh_end, hand_in, stage_at as port_stage, coming, has_room, is_below}
 use Rattle.flow_intake.specs.Calls.{is_postponed}
 use Rattle.flow_intake.specs.PortLaw.{has_ended as has_port_ended, is_in}
@@ -60,7 +60,7 @@ use Rattle.flow_block_law.proofs.NodesSeen.{held_is, none_held, own_fault_is, lo
 use Rattle.flow_block_law.proofs.NothingToDo.{not_pending, worked_off, none_seen, no_coming, not_finished}
 use Rattle.flow_block_law.proofs.WishesTell.{no_own_move}
 use Rattle.flow_block_law.proofs.PlacesOfLinks.{target_there, end_in_of}
-use Rattle.flow_lists.proofs.TestsTell.{every_tells, every_where, some_where}
+use Rattle.flow_link.proofs.TestsTell.{every_tells, every_where, some_where}
 use Rattle.flow_block.specs.Groups.{has_group_at}
 use Rattle.flow_block_law.specs.GroupsLaw.{are_complete}
 use Rattle.flow_block_law.proofs.GroupsTold.{group_told}

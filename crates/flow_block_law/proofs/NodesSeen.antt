@@ -6,12 +6,12 @@ use Rattle.flow_link.specs.declared.draft.BlockKind.{BlockKind}
 use Rattle.flow_link.specs.declared.trace.Mark.{Mark}
 use Rattle.flow_lawful.specs.Composes.{Ends}
 use Rattle.flow_lawful.specs.Endings.{first_fault, fault_by_kind, fault_of, own_fault, is_complete, is_complete_as}
-use Rattle.flow_lists.specs.Lists.{every, is_empty, below}
+use Rattle.flow_link.specs.Lists.{every, is_empty, below}
 use Rattle.flow_link.specs.Making.{results_of, block_result, worked, part_left, load, load_as, all_items}
 use Rattle.flow_link.specs.Plan.{has_work, port_count, is_one_taker, is_write_once}
 use Rattle.flow_link.specs.Trace.{BlockTrace, Run, took, gave, has_complete, partly_left, block_of, marks_of, held_at, left_at, ports_of}
 use Rattle.flow_link.proofs.KindsTell.{kind_tells}
-use Rattle.flow_lists.proofs.ListTests.{every_below, front_without}
+use Rattle.flow_link.proofs.ListTests.{every_below, front_without}
 use Rattle.flow_intake.specs.Port.{PortState, fresh_port}
 use Rattle.flow_outlet.specs.Fits.{weight_of}
 use Rattle.flow_outlet.specs.Outlet.{is_empty as has_none}
@@ -27,7 +27,7 @@ use Rattle.flow_block.specs.Planned.{block_makes, room_of}
 use Rattle.flow_block_law.proofs.CopierOf.{copier_seen, none_shared}
 use Rattle.flow_block_law.proofs.CopiesIdle.{left_is_shared, copies_idle}
 use Rattle.flow_block_law.proofs.KindsBuilt.{by_kind, has_one_port, room_kept}
-use Rattle.flow_lists.proofs.TestsTell.{every_tells}
+use Rattle.flow_link.proofs.TestsTell.{every_tells}
 use Rattle.flow_block.proofs.NothingLeft.{none_left}
 use Rattle.flow_block_law.proofs.WeightsOfResults.{weight_weighed, weight_rows, weight_partial}
 use Rattle.flow_block_law.specs.TuplesSeen.{JoinSeen, IsPortsOf}

@@ -9,7 +9,7 @@ use Rattle.flow_block.specs.Block.{port_in}
 use Rattle.flow_block.specs.Peeks.{nothing_comes}
 use Rattle.flow_block_law.specs.Stands.{PortsAtRest}
 use Rattle.flow_block.specs.Traits.{shown_over, port_shown, port_into, target_over}
-use Rattle.flow_lists.proofs.TestsTell.{every_tells}
+use Rattle.flow_link.proofs.TestsTell.{every_tells}
 
 -- at no end does a message come
 pub none_counted : (ends : List EndState) → ((k : ℕ) → k < length ends → is_coming (stage_in k ends) ≡ false)

@@ -11,7 +11,7 @@ use Rattle.flow_link.specs.declared.kinds.BlockUnit.{BlockUnit}
 use Rattle.flow_link.specs.declared.kinds.BlockUnit.TheVariants as unit
 use Rattle.flow_link.specs.Kinds.{unit_of, makes_rows, makes_tuples, makes_groups, takes_at_ports}
 use Rattle.flow_link.proofs.KindsTell.{kind_tells, row_is, tuple_is, group_is}
-use Rattle.flow_lists.proofs.ListTests.{never_both}
+use Rattle.flow_link.proofs.ListTests.{never_both}
 use Rattle.flow_intake.specs.Port.{PortState, fresh_port, stage_at as port_stage, coming}
 use Rattle.flow_outlet.specs.End.{is_over, is_spoken_for, is_waiting, is_cut, is_closed, speaks_of, rejects}
 use Rattle.flow_outlet.specs.Law.{admits_head as admits}
@@ -36,7 +36,7 @@ use Rattle.flow_block_law.proofs.FaultsSeen.{first_none}
 use Rattle.flow_block_law.proofs.GoingOn.{away_goes_on, waiting_away}
 use Rattle.flow_block_law.proofs.JobsRest.{holds_none}
 use Rattle.flow_block_law.proofs.KindsBuilt.{has_one_port}
-use Rattle.flow_lists.proofs.TestsTell.{every_where}
+use Rattle.flow_link.proofs.TestsTell.{every_where}
 use Rattle.flow_block.proofs.NothingLeft.{none_left}
 use Rattle.flow_group.specs.Tuple.{has_tuple}
 

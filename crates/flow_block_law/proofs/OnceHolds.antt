@@ -7,7 +7,7 @@ use Rattle.flow_link.specs.Layout.{Layout}
 use Rattle.flow_link.specs.LinkOk.{IsWithin}
 use Rattle.flow_link.specs.Plan.{block_in, is_write_once, is_one_taker}
 use Rattle.flow_link.proofs.KindsTell.{kind_tells}
-use Rattle.flow_lists.proofs.ListTests.{never_both}
+use Rattle.flow_link.proofs.ListTests.{never_both}
 use Rattle.flow_intake.specs.Port.{PortState, fresh_port, coming, is_coming, is_hand, stage_at as port_stage}
 use Rattle.flow_intake.specs.Calls.{first_of, wants, turns_down, postpones, refuses, consumes, asks, claims, releases, opens, closes, looks as port_looks, takes_next, port_closes, gives_room}
 use Rattle.flow_intake.proofs.CountsOfEnds.{count_there, hand_comes}

@@ -11,7 +11,7 @@ use Rattle.flow_spread.specs.End.{no_end}
 use Rattle.flow_spread.specs.Spread.{SpreadState, link_at}
 use Rattle.flow_block.specs.Planned.{is_out_of, links_from, rule_of, out_place}
 use Rattle.flow_block_law.proofs.PlacesOfLinks.{source_there, there_at_source}
-use Rattle.flow_lists.proofs.PlacesOfNumbers.{stands_below, place_below}
+use Rattle.flow_link.proofs.PlacesOfNumbers.{stands_below, place_below}
 
 abbrev pub rule_at_end : CopyEnd → LinkRule
 rule_at_end end = end.link.rule

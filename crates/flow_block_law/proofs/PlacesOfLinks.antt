@@ -11,7 +11,7 @@ use Rattle.flow_link.specs.declared.plan.LinkTarget.{LinkTarget}
 use Rattle.flow_link.specs.declared.plan.LinkTarget.TheVariants.{Port, Exit}
 use Rattle.flow_link.specs.declared.stage.TargetStage.{TargetStage}
 use Rattle.flow_link.specs.Layout.{Layout}
-use Rattle.flow_lists.specs.Lists.{numbers_from, below}
+use Rattle.flow_link.specs.Lists.{numbers_from, below}
 use Rattle.flow_link.specs.Plan.{link_in, begins_at, ends_at, ends_at_port, links_into, is_one_taker}
 use Rattle.flow_intake.specs.Port.{EndState, end_in, fresh_end, count_at}
 use Rattle.flow_outlet.specs.declared.ends.LinkRule.{LinkRule}
@@ -21,7 +21,7 @@ use Rattle.flow_outlet.specs.Outlet.{end_at}
 use Rattle.flow_block.specs.Block.{BlockState, port_at}
 use Rattle.flow_block_law.specs.NodeLaw.{ShapeLaw}
 use Rattle.flow_block.specs.Planned.{is_out_of, is_into, links_from, links_to, rule_of, out_place, in_place}
-use Rattle.flow_lists.proofs.PlacesOfNumbers.{stands_below, place_below, filter_two, length_cond, count_shift}
+use Rattle.flow_link.proofs.PlacesOfNumbers.{stands_below, place_below, filter_two, length_cond, count_shift}
 
 -- where a link leads, and whence
 pub target_there : (b p : ℕ) (target : LinkTarget) → ends_at_port b p target ≡ true → target ≡ Port b p

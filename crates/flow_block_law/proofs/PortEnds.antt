@@ -28,7 +28,7 @@ use Rattle.flow_value.specs.declared.value.Value.{Value}
 use Rattle.flow_outlet.specs.Outlet.{is_empty}
 use Rattle.flow_block_law.specs.NodeLaw.{RefusesFor, has_its_message}
 use Rattle.flow_block_law.proofs.FaultsSeen.{Unseen, unseen_where}
-use Rattle.flow_lists.proofs.TestsTell.{some_set}
+use Rattle.flow_link.proofs.TestsTell.{some_set}
 
 -- One port
 

@@ -37,7 +37,7 @@ use Rattle.flow_block_law.proofs.WishesTell.{asks_so, claims_so, releases_so, as
 use Rattle.flow_block_law.proofs.JournalTells.{took_same, took_here}
 use Rattle.flow_block_law.proofs.KindsBuilt.{makes_by, next_by}
 use Rattle.flow_block.proofs.PortsChange.{each_after_one, each_after_all}
-use Rattle.flow_lists.proofs.TestsTell.{every_tells}
+use Rattle.flow_link.proofs.TestsTell.{every_tells}
 use Rattle.flow_block_law.proofs.GroupPorts.{each_after_group}
 use Rattle.flow_group.specs.Group.{takes_first}
 

@@ -1,7 +1,7 @@
 -- Where each end of its ports is the one that its link names, a block stands at each link into it as its end does.
 use Rattle.std.proofs.Common.{◌≡◌, ℕ, ◌<◌, ◌&&◌, Bool, true, false, List, [], ◌∷◌, zero, suc, ◌≤◌, inl, inr, get_or, length, Option, Some, None, is_some, refl, ap, ap₂, sym, ◌∙◌, arith, eq-eqb}
 use Rattle.std.proofs.lemmas.Bool.{cases_lt}
-use Rattle.flow_lists.specs.Lists.{below}
+use Rattle.flow_link.specs.Lists.{below}
 use Rattle.flow_link.specs.declared.stage.TargetStage.{TargetStage}
 use Rattle.flow_link.specs.declared.stage.TargetStage.TheVariants as target
 use Rattle.flow_intake.specs.Port.{EndState, PortState, fresh_end, end_in, link_in, stage_at, is_coming, coming}
@@ -11,7 +11,7 @@ use Rattle.flow_block.specs.Block.{port_in}
 use Rattle.flow_block_law.specs.Stands.{OwnPorts, PortsStandInOrder}
 use Rattle.flow_block.specs.Traits.{shown_over, port_shown, port_into, target_over, names_itself, leads_to, wishes_at, wishing_port}
 use Rattle.flow_block_law.proofs.NothingComes.{none_counted}
-use Rattle.flow_lists.proofs.PlacesNamed.{place_none}
+use Rattle.flow_link.proofs.PlacesNamed.{place_none}
 use Rattle.flow_block.proofs.TargetMoves.{shown_is, number_at, below_count}
 
 beyond_end : (ends : List EndState) (k : ℕ) → length ends ≤ k → end_in k ends ≡ fresh_end 0

@@ -10,8 +10,8 @@ use Rattle.flow_link.specs.declared.draft.BlockKind.TheVariants.{Join}
 use Rattle.flow_link.specs.declared.plan.LinkTarget.{LinkTarget}
 use Rattle.flow_link.specs.declared.plan.LinkTarget.TheVariants.{Port, Exit}
 use Rattle.flow_link.specs.Layout.{Layout}
-use Rattle.flow_lists.specs.Lists.{below as numbers}
-use Rattle.flow_lists.proofs.ListTests.{never_both}
+use Rattle.flow_link.specs.Lists.{below as numbers}
+use Rattle.flow_link.proofs.ListTests.{never_both}
 use Rattle.flow_link.specs.JournalGrows.{taken_by_mark}
 use Rattle.flow_link.specs.Plan.{block_in, link_in, is_reserving, reserves_by_kind, is_write_once, is_one_taker, is_broadcast, ends_at, ends_at_port}
 use Rattle.flow_link.specs.Trace.{took_at}

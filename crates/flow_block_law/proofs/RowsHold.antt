@@ -10,11 +10,11 @@ use Rattle.flow_link.specs.declared.trace.Outcome.{Outcome}
 use Rattle.flow_link.specs.declared.trace.Outcome.TheVariants as outcome
 use Rattle.flow_link.specs.JournalGrows.{given_by_mark}
 use Rattle.flow_link.specs.Layout.{Layout}
-use Rattle.flow_lists.specs.Lists.{every}
+use Rattle.flow_link.specs.Lists.{every}
 use Rattle.flow_link.specs.Making.{row_weight, before_complete}
 use Rattle.flow_link.specs.Trace.{gave, has_complete, is_complete_mark}
 use Rattle.flow_link.proofs.KindsTell.{kind_tells}
-use Rattle.flow_lists.proofs.ListTests.{never_both}
+use Rattle.flow_link.proofs.ListTests.{never_both}
 use Rattle.flow_link.proofs.OneMoreMark.{some_no_more, gave_no_more, gave_by_took, gave_by_gave}
 use Rattle.flow_intake.specs.Port.{PortState, fresh_port, stage_at as port_stage, hand_in, is_hand}
 use Rattle.flow_intake.specs.PortLaw.{has_ended as has_port_ended}

@@ -14,13 +14,13 @@ use Rattle.flow_link.specs.declared.trace.Mark.TheVariants.{Took, Gave, Complete
 use Rattle.flow_lawful.specs.Composes.{Ends, SourceKeeps, SpeaksForOne, WorksInto, NodeMakes, as_seen, is_refused_stage, is_spoken_for}
 use Rattle.flow_link.specs.Copies.{copies_as}
 use Rattle.flow_lawful.specs.Law.{is_own_mark, is_passed, gives_in_order, keeps_link_order}
-use Rattle.flow_lists.specs.Lists.{every, below, is_empty, same_values}
+use Rattle.flow_link.specs.Lists.{every, below, is_empty, same_values}
 use Rattle.flow_link.specs.Making.{outputs, group_size, all_items, are_groups, row_weight, before_complete, whole_until, join_makes, batched_join_makes}
 use Rattle.flow_link.specs.Plan.{begins_at, is_one_taker, is_steady, is_write_once}
 use Rattle.flow_link.specs.Stage.{source_stage_of}
 use Rattle.flow_link.specs.Trace.{BlockTrace, Run, took, gave, gave_over, has_complete, has_fault, is_done, is_faulted, is_used_up, is_cut, block_of, link_of, trace_of, marks_of, held_at, left_at, given_by}
 use Rattle.flow_link.specs.Worked.{WorkedInto}
-use Rattle.flow_lists.proofs.ListTests.{every_weaker_below, or_others, same_values_where}
+use Rattle.flow_link.proofs.ListTests.{every_weaker_below, or_others, same_values_where}
 use Rattle.flow_outlet.specs.declared.ends.LinkRule.{LinkRule}
 use Rattle.flow_outlet.specs.declared.ends.OutEnd.{OutEnd}
 use Rattle.flow_outlet.specs.End.{no_end, is_cut as is_end_cut}
@@ -32,12 +32,13 @@ use Rattle.flow_block_law.specs.NodeLaw.{NodeLaw, MakesAs, RowsLaw, is_whole, re
 use Rattle.flow_block_law.specs.NodeSeen.{IsNodeOf, EachMayCarry}
 use Rattle.flow_block.specs.Planned.{out_place, block_makes}
 use Rattle.flow_block_law.proofs.CopiesIdle.{left_is_shared, view_is_shared}
-use Rattle.flow_block_law.proofs.EndsTell.{ended_complete, ended_fault, ended_plain, used_up_told, ended_stage, refused_told, spoken_for_told}
+use Rattle.flow_block_law.proofs.EndsTell.{ended_complete, ended_fault, ended_plain, used_up_told, refused_told, spoken_for_told}
+use Rattle.flow_link.proofs.StagesKept.{ended_stage}
 use Rattle.flow_block_law.proofs.JournalTells.{stopped_tells, done_marked, fault_marked, passed_by}
 use Rattle.flow_block_law.proofs.KindsBuilt.{copies_nothing}
 use Rattle.flow_block_law.proofs.NodesSeen.{held_is, is_joining, join_seen, is_grouping, as_ports}
 use Rattle.flow_block_law.proofs.PlacesOfLinks.{HasEndOut, end_out_is, end_out_of, source_there}
-use Rattle.flow_lists.proofs.TestsTell.{some_tells}
+use Rattle.flow_link.proofs.TestsTell.{some_tells}
 use Rattle.flow_block_law.proofs.GroupsSeen.{batched_joins_are_parts}
 use Rattle.flow_block_law.specs.GroupsLaw.{KeepsGroups, WholeBefore}
 use Rattle.flow_link.specs.declared.phase.LinkEnd.TheVariants as link_end

@@ -15,7 +15,7 @@ use Rattle.flow_lawful.specs.RestsByParts.{OutletRests, is_over as is_view_over}
 use Rattle.flow_link.specs.Stage.{source_stage_of}
 use Rattle.flow_link.specs.Trace.{BlockTrace, Run, gave_over, given_by, given_over, is_faulted, is_done, is_used_up, is_cut as is_run_cut, block_of, link_of, marks_of, left_at}
 use Rattle.flow_link.specs.Views.{SourceStage as SourceViewStage, SourceView}
-use Rattle.flow_lists.proofs.ListTests.{never_both}
+use Rattle.flow_link.proofs.ListTests.{never_both}
 use Rattle.flow_outlet.specs.End.{id_of, is_waiting, is_cut}
 use Rattle.flow_outlet.specs.Law.{admits_head as admits}
 use Rattle.flow_outlet.specs.Outlet.{OutletState, first_of, is_empty, head_of, end_at, stage_at, end_of}
@@ -31,7 +31,8 @@ use Rattle.flow_block_law.specs.CopiesSeen.{MayCarry}
 use Rattle.flow_block_law.proofs.CopierOf.{CopiesQuiet, copies_quiet}
 use Rattle.flow_block_law.proofs.CopiesIdle.{left_is_shared, view_is_shared}
 use Rattle.flow_block_law.proofs.EndsAtRest.{over_unless, not_cut, not_stopped}
-use Rattle.flow_block_law.proofs.EndsTell.{limit_is, no_room_left, free_back}
+use Rattle.flow_block_law.proofs.EndsTell.{limit_is, no_room_left}
+use Rattle.flow_link.proofs.StagesKept.{free_back}
 use Rattle.flow_block_law.proofs.JournalTells.{stopped_tells, faulted_marked}
 use Rattle.flow_block_law.proofs.KindsBuilt.{head_is_first}
 use Rattle.flow_block_law.proofs.NothingToDo.{free_at, waiting_goes, not_admitted, left_where}

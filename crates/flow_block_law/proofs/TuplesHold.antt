@@ -35,7 +35,7 @@ use Rattle.flow_block.proofs.PortsChange.{kept_at_one, kept_at_all}
 use Rattle.flow_block.proofs.RoomBack.{length_back, kept_back}
 use Rattle.flow_block_law.proofs.RowsHold.{given_on}
 use Rattle.flow_block.specs.Copies.{copy_place}
-use Rattle.flow_lists.proofs.ListTests.{never_both}
+use Rattle.flow_link.proofs.ListTests.{never_both}
 
 -- what is taken, held and made is as before
 stays : (before after : BlockState) (journal later : List Mark) → KeepsTuples before journal

@@ -7,12 +7,12 @@ use Rattle.flow_value.specs.declared.value.Value.{Value}
 use Rattle.flow_link.specs.declared.draft.BlockKind.TheVariants.{Join}
 use Rattle.flow_link.specs.declared.trace.Mark.{Mark}
 use Rattle.flow_lawful.specs.Endings.{is_complete_as}
-use Rattle.flow_lists.specs.Lists.{every, some, below, numbers_from, is_empty, same_values}
+use Rattle.flow_link.specs.Lists.{every, some, below, numbers_from, is_empty, same_values}
 use Rattle.flow_link.specs.Making.{is_row, column, outputs, join_makes, load_as}
 use Rattle.flow_link.specs.Plan.{is_one_taker}
 use Rattle.flow_lawful.specs.Quiet.{has_no_row}
 use Rattle.flow_link.specs.Trace.{BlockTrace, Run, took_at, gave, has_complete, block_of, marks_of, held_at, left_at, ports_of}
-use Rattle.flow_lists.proofs.ListTests.{every_below, length_numbers, same_values_where}
+use Rattle.flow_link.proofs.ListTests.{every_below, length_numbers, same_values_where}
 use Rattle.flow_link.proofs.RoundsOfWalks.{some_here_below}
 use Rattle.flow_intake.specs.Port.{PortState, fresh_port}
 use Rattle.flow_intake.specs.PortLaw.{has_ended}

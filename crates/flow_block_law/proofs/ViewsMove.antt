@@ -49,7 +49,7 @@ use Rattle.flow_block_law.proofs.PlacesOfLinks.{links_in_differ, links_out_diffe
 use Rattle.flow_block_law.proofs.EndsStay.{EndsStay, copied_stays, group_stays, making_stays, jobs_stay, closing_stays, stopping_stays}
 use Rattle.flow_block.proofs.PortsChange.{end_there, end_elsewhere}
 use Rattle.flow_block.proofs.RoomBack.{port_back}
-use Rattle.flow_lists.proofs.TestsTell.{some_is}
+use Rattle.flow_link.proofs.TestsTell.{some_is}
 
 -- one end of a link into a node stands at a place, and all others as they did
 record OneInMoves (node new : NodeState) (p k : ℕ) (end : EndState) : Type 0 where

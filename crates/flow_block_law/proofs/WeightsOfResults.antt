@@ -2,7 +2,7 @@
 use Rattle.std.proofs.Common.{◌≡◌, ℕ, ◌+◌, ◌-◌, ◌==◌, ◌≤◌, ltb, cond, Bool, true, false, List, [], ◌∷◌, ◌++◌, length, ◌||◌, Option, Some, None, is_some, Result, Ok, refl, ap, ap₂, sym, ◌∙◌, ◌<◌, arith, eq-eqb, ne_eqb, length-append, append_assoc}
 use Rattle.std.proofs.lemmas.Bool.{ltb-true, ltb-false, lt-ltb}
 use Rattle.flow_value.specs.declared.value.Value.{Value}
-use Rattle.flow_lists.specs.Lists.{concat}
+use Rattle.flow_link.specs.Lists.{concat}
 use Rattle.flow_link.specs.Making.{items_of, all_items, row_weight}
 use Rattle.flow_link.specs.Trace.{partly_left}
 use Rattle.flow_link.specs.declared.draft.BlockKind.{BlockKind}

@@ -18,9 +18,9 @@ use Rattle.flow_spread.specs.declared.end.CopyEnd.{CopyEnd}
 use Rattle.flow_spread.specs.End.{count_of, owes_it, is_busy, is_busy_at, is_waiting_at, end_in}
 use Rattle.flow_spread.specs.Law.{SpreadLaw, speaks}
 use Rattle.flow_spread.specs.Spread.{SpreadState, end_at, is_spread_free}
-use Rattle.flow_lists.proofs.ListTests.{never_both}
+use Rattle.flow_link.proofs.ListTests.{never_both}
 use Rattle.flow_link.specs.declared.trace.Outcome.{Outcome}
-use Rattle.flow_lists.proofs.TestsTell.{none_unless}
+use Rattle.flow_link.proofs.TestsTell.{none_unless}
 use Rattle.flow_block.specs.Node.{NodeState}
 use Rattle.flow_block.specs.Block.{BlockState, held_by}
 use Rattle.flow_block_law.specs.Copier.{Copier}

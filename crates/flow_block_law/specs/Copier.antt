@@ -5,7 +5,7 @@ use Rattle.flow_value.specs.When.{admits}
 use Rattle.flow_link.specs.declared.draft.BlockKind.{BlockKind}
 use Rattle.flow_link.specs.declared.trace.Mark.{Mark}
 use Rattle.flow_link.specs.Layout.{Layout}
-use Rattle.flow_lists.specs.Lists.{every}
+use Rattle.flow_link.specs.Lists.{every}
 use Rattle.flow_link.specs.Plan.{is_write_once}
 use Rattle.flow_link.specs.Trace.{took, gave_over}
 use Rattle.flow_outlet.specs.Outlet.{fresh_outlet}

@@ -19,7 +19,7 @@ use Rattle.flow_block.specs.Copies.{copies_left, may_put as may_put_next}
 use Rattle.flow_block_law.specs.NextCopies.{next_copy}
 use Rattle.flow_block.specs.Node.{NodeState, copy_view, node_trace, left_in}
 use Rattle.flow_block_law.specs.NodeLaw.{outcome_in}
-use Rattle.flow_block_law.specs.NodeRests.{rests_out}
+use Rattle.flow_link.specs.Stage.{rests_out}
 use Rattle.flow_block.specs.Peeks.{is_pending, is_copy_held_up}
 use Rattle.flow_block.specs.Planned.{out_place}
 

@@ -3,7 +3,7 @@
 use Rattle.std.specs.Prelude.{◌≡◌, ℕ, ◌+◌, ◌<◌, ◌≤◌, Bool, true, List, [], ◌++◌, length, is_some}
 use Rattle.flow_value.specs.declared.value.Value.{Value}
 use Rattle.flow_link.specs.declared.trace.Mark.{Mark}
-use Rattle.flow_lists.specs.Lists.{every, below}
+use Rattle.flow_link.specs.Lists.{every, below}
 use Rattle.flow_link.specs.Making.{all_items, arrivals, before_complete, column}
 use Rattle.flow_link.specs.Trace.{gave, has_complete}
 use Rattle.flow_group.specs.Groups.{GroupsLaw, is_whole}

@@ -1,6 +1,6 @@
 -- Of the faults that came over links into a block, the one over the link with the lowest number counts.
 use Rattle.std.specs.Prelude.{◌≡◌, ℕ, ◌<◌, ◌≤◌, ◌==◌, Bool, true, ◌&&◌, List, length, Some, None, is_some}
-use Rattle.flow_lists.specs.Lists.{some}
+use Rattle.flow_link.specs.Lists.{some}
 use Rattle.flow_intake.specs.Port.{EndState, PortState, link_in, stage_in}
 use Rattle.flow_intake.specs.Ended.{fault_seen}
 use Rattle.flow_block.specs.Block.{port_in}

@@ -12,7 +12,7 @@ use Rattle.flow_link.specs.Facts.{facts_in}
 use Rattle.flow_link.specs.Layout.{Layout}
 use Rattle.flow_link.specs.LinkOk.{MayPutOff}
 use Rattle.flow_link.specs.Phase.{is_numbered}
-use Rattle.flow_lists.specs.Lists.{every}
+use Rattle.flow_link.specs.Lists.{every}
 use Rattle.flow_link.specs.Stage.{source_looks}
 use Rattle.flow_link.specs.Trace.{took_at}
 use Rattle.flow_intake.specs.Port.{stage_at as port_stage, has_room, is_offer, is_hand}

@@ -8,8 +8,6 @@ use Rattle.flow_link.specs.declared.kinds.BlockUnit.{BlockUnit}
 use Rattle.flow_link.specs.declared.kinds.BlockUnit.TheVariants as unit
 use Rattle.flow_link.specs.declared.stage.Refusal.{Refusal}
 use Rattle.flow_link.specs.declared.stage.Refusal.TheVariants.{PortEnded, OwnFault}
-use Rattle.flow_link.specs.declared.stage.SourceStage.{SourceStage}
-use Rattle.flow_link.specs.declared.stage.SourceStage.TheVariants.{Reserved, Claimed}
 use Rattle.flow_link.specs.declared.stage.TargetStage.TheVariants.{Refused}
 use Rattle.flow_link.specs.declared.trace.Mark.{Mark}
 use Rattle.flow_link.specs.declared.trace.Mark.TheVariants as mark
@@ -20,7 +18,7 @@ use Rattle.flow_link.specs.Facts.{facts_in}
 use Rattle.flow_lawful.specs.Law.{is_own_mark, gives_in_order}
 use Rattle.flow_link.specs.Layout.{Layout}
 use Rattle.flow_link.specs.Kinds.{unit_of}
-use Rattle.flow_lists.specs.Lists.{every, some, below}
+use Rattle.flow_link.specs.Lists.{every, some, below}
 use Rattle.flow_link.specs.Making.{all_items, are_groups, row_weight, before_complete}
 use Rattle.flow_link.specs.Plan.{block_in, port_count, has_work, is_one_taker, is_write_once, is_reserving}
 use Rattle.flow_link.specs.Trace.{Run, took, took_at, gave, gave_over, has_complete, has_fault, has_ended, is_done}
@@ -55,12 +53,6 @@ places_out block = weight_of block.exits.groups + copies_weight block.copies
 -- the source knows that this link is refused
 abbrev pub refuses_over : List OutEnd → ℕ → Bool
 refuses_over ends l = some (λ (end : OutEnd). end.rule.id == l && is_refused end.stage) ends
-
--- the message is kept for a target
-abbrev pub is_kept : SourceStage → Bool
-is_kept (Reserved _) = true
-is_kept (Claimed _) = true
-is_kept _ = false
 
 -- how a journal says that its block stopped
 abbrev pub stops_at : Mark → Option Outcome

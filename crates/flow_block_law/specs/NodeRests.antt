@@ -1,13 +1,12 @@
 -- A node that has nothing to do is still, and it rests when its links do.
 use Rattle.std.specs.Prelude.{◌≡◌, ℕ, ◌<◌, Bool, true, false, length, None}
 use Rattle.flow_link.specs.declared.plan.LinkTarget.TheVariants.{Port}
-use Rattle.flow_link.specs.declared.stage.SourceStage.{SourceStage}
-use Rattle.flow_link.specs.declared.stage.SourceStage.TheVariants as source
 use Rattle.flow_link.specs.declared.stage.TargetStage.{TargetStage}
 use Rattle.flow_link.specs.declared.stage.TargetStage.TheVariants as target
 use Rattle.flow_lawful.specs.Composes.{Ends}
 use Rattle.flow_lawful.specs.RestsByParts.{NodeIsStill, NodeRests, is_holding}
 use Rattle.flow_link.specs.Plan.{is_reserving as joins_by_rounds}
+use Rattle.flow_link.specs.Stage.{rests_out}
 use Rattle.flow_link.specs.Trace.{Run, block_of, link_of}
 use Rattle.flow_intake.specs.Port.{stage_at as port_stage}
 use Rattle.flow_outlet.specs.Outlet.{stage_at}
@@ -33,13 +32,6 @@ pub record HasNothingToDo (node : NodeState) : Type 0 where
   pub finishes : may_finish node.block ≡ false
 
 -- nothing is under way at an end, though an offer may wait there
-abbrev pub rests_out : SourceStage → Bool
-rests_out source.Free = true
-rests_out (source.Waiting _) = true
-rests_out source.Refused = true
-rests_out (source.Ended _) = true
-rests_out _ = false
-
 abbrev pub rests_in : TargetStage → Bool
 rests_in target.Free = true
 rests_in (target.Postponed _) = true
@@ -52,11 +44,6 @@ pub record EndsRest (node : NodeState) : Type 0 where
       → rests_in (port_stage k (port_at p node.block)) ≡ true
   pub outs : (k : ℕ) → k < length node.block.exits.ends → rests_out (stage_at node.block.exits k) ≡ true
   pub copies : (k : ℕ) → k < length node.block.copies.ends → rests_out (copy_stage node.block.copies k) ≡ true
-
--- the target asks to reserve the message
-abbrev pub is_asked : SourceStage → Bool
-is_asked (source.AskedBy _) = true
-is_asked _ = false
 
 -- only for a join that reserves is a message kept
 abbrev pub HoldsByPlan : {W : Type 0} → Run W → (ℕ → Ends) → ℕ → Type 0

@@ -4,7 +4,7 @@ use Rattle.std.proofs.Common.{◌≡◌, ℕ, zero, suc, List, get_or, Some, Res
 use Rattle.std.specs.Coded.{codes}
 use Rattle.flow_value.specs.declared.value.Value.{Value}
 use Rattle.flow_value.specs.contracts.value.Value as content
-use Rattle.flow_lists.proofs.PlacesTell.{element_set}
+use Rattle.flow_link.proofs.PlacesTell.{element_set}
 use Rattle.flow_link.specs.declared.phase.Phase.{Phase}
 use Rattle.flow_link.specs.declared.plan.LinkSource.{LinkSource}
 use Rattle.flow_link.specs.declared.plan.LinkSource.TheVariants.{Block, Input}

@@ -2,7 +2,7 @@
 use Rattle.std.proofs.Common.{◌≡◌, ℕ, true, false, List, [], ◌∷◌, map, get_or, refl, ap, sym, subst, ◌∙◌}
 use Rattle.std.proofs.Math.ListN.{get_or-map}
 use Rattle.std.proofs.Math.Logic.{∥∥₁_map}
-use Rattle.flow_lists.specs.Lists.{below}
+use Rattle.flow_link.specs.Lists.{below}
 use Rattle.flow_block.specs.Planned.{links_out}
 use Rattle.flow_exit.specs.Exit.{ExitCall, ExitState, after_exit, caller_of, fresh_exit}
 use Rattle.flow_exit.specs.ExitKeeps.{ExitLaw}

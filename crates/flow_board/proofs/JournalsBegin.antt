@@ -1,7 +1,7 @@
 -- The journals of tasks go on from those with which they began.
 use Rattle.std.proofs.Common.{◌≡◌, ℕ, zero, suc, ◌+◌, ◌-◌, ◌<◌, List, [], ◌∷◌, length, map, get_or, take, refl, ◌∙◌, subst, arith}
 use Rattle.std.proofs.Math.Logic.{∥∥₁_elim}
-use Rattle.flow_lists.specs.Lists.{numbers_from}
+use Rattle.flow_link.specs.Lists.{numbers_from}
 use Rattle.flow_link.specs.Planned.{layout_of}
 use Rattle.flow_poll.specs.Turns.{Extends}
 use Rattle.flow_task.specs.Begun.{begun_journal}

@@ -9,7 +9,7 @@ use Rattle.std.specs.Coded.{codes, le_prop}
 use Rattle.flow_value.specs.declared.value.Value.{Value}
 use Rattle.flow_value.specs.declared.work.WorkFault.{WorkFault}
 use Rattle.flow_value.specs.contracts.value.Value as content
-use Rattle.flow_lists.specs.Lists.{is_front}
+use Rattle.flow_link.specs.Lists.{is_front}
 use Rattle.flow_link.specs.declared.plan.LinkSource.{LinkSource}
 use Rattle.flow_link.specs.declared.plan.LinkSource.TheVariants.{Block, Input}
 use Rattle.flow_link.specs.declared.plan.LinkTarget.{LinkTarget}

@@ -3,7 +3,7 @@ use Rattle.std.specs.Prelude.{◌≡◌, ℕ, ◌+◌, ◌<◌, ◌≤◌, true,
 use Rattle.std.specs.List.Sorted.{IsPermutation}
 use Rattle.flow_value.specs.declared.value.Value.{Value}
 use Rattle.flow_value.specs.declared.work.WorkFault.{WorkFault}
-use Rattle.flow_lists.specs.Lists.{below, is_front}
+use Rattle.flow_link.specs.Lists.{below, is_front}
 use Rattle.flow_link.specs.Layout.{Layout}
 use Rattle.flow_link.specs.Plan.{link_in}
 use Rattle.flow_link.specs.Trace.{gave_over, marks_of, took_over}

@@ -1,7 +1,7 @@
 //! The parts of a scattered network are put together again.
 ghost use Rattle.std.specs.Prelude.{◌≡◌, ◌<◌, true, false, All, get_or, length, map, take, IfErr, IfOk};
 ghost use Rattle.flow_lawful.specs.Lawful.{Lawful};
-ghost use Rattle.flow_lists.specs.Lists.{below};
+ghost use Rattle.flow_link.specs.Lists.{below};
 ghost use Rattle.flow_block.specs.Planned.{links_out};
 ghost use Rattle.flow_core.specs.InOrder.{journals_of};
 ghost use Rattle.flow_core.specs.Inputs.{InputsStay};

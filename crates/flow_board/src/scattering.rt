@@ -1,6 +1,6 @@
 //! A network is scattered into parts that threads may turn.
 ghost use Rattle.std.specs.Prelude.{◌≡◌, ℕ, ◌<◌, false, length, map, take, IfErr, IfOk, OnErr};
-ghost use Rattle.flow_lists.specs.Lists.{below};
+ghost use Rattle.flow_link.specs.Lists.{below};
 ghost use Rattle.flow_lawful.specs.Lawful.{Lawful};
 ghost use Rattle.flow_wire.specs.Ends.{Start, is_crossing};
 ghost use Rattle.flow_core.specs.Inputs.{InputsStay};
@@ -17,7 +17,7 @@ ghost use Rattle.flow_task.specs.Untouched.{AllUntouched};
 ghost use Rattle.flow_task.specs.Wired.{AllReady, AreWired};
 
 use crate::home::bring_home;
-use flow_apart::NetParts;
+use flow_moves::NetParts;
 use flow_net::Net;
 use flow_task::{Frame, Scattered, Wired, make_wires};
 use flow_value::Runs;

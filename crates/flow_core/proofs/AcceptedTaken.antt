@@ -13,7 +13,7 @@ use Rattle.flow_link.specs.Stage.{source_stage_of}
 use Rattle.flow_link.specs.Trace.{marks_of, took_over}
 use Rattle.flow_link.specs.Views.{SourceStage, TargetStage}
 use Rattle.flow_link.proofs.LinksTell.{links_tell}
-use Rattle.flow_lists.specs.Lists.{is_front}
+use Rattle.flow_link.specs.Lists.{is_front}
 use Rattle.flow_block_law.specs.NodeSeen.{NodesAreLawful}
 use Rattle.flow_input.specs.Input.{InputState}
 use Rattle.flow_input.specs.InputKeeps.{InputLaw, InputsAreParts}

@@ -12,7 +12,7 @@ use Rattle.flow_core.specs.State.{NetState, exit_at, target_from}
 use Rattle.flow_core.specs.Statements.{ExitCallsKeep}
 use Rattle.flow_core.proofs.LinesKeep.{keeps_with, line_stays}
 use Rattle.flow_core.proofs.PartsChange.{parts_in_order, exit_changes, given_as_before}
-use Rattle.flow_lists.proofs.PlacesTell.{element_set}
+use Rattle.flow_link.proofs.PlacesTell.{element_set}
 
 callers_may : (exit : ExitState) (call : ExitCall) → is_callers call ≡ true → MayCallExit call exit
 callers_may exit (ExitCall.ask waits) e = tt

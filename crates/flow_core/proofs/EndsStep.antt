@@ -28,7 +28,7 @@ use Rattle.flow_core.proofs.PartsChange.{PartsInOrder, NodeSteps, given_at, take
 use Rattle.flow_core.proofs.PartsChange.{node_changes, given_stays, taken_stays, node_is, input_changes}
 use Rattle.flow_core.proofs.PartsChange.{given_by_others, input_is, taken_as_before}
 use Rattle.flow_core.proofs.PartsChange.{exit_changes, exit_is, taken_by_others, given_as_before}
-use Rattle.flow_lists.proofs.PlacesTell.{places_differ}
+use Rattle.flow_link.proofs.PlacesTell.{places_differ}
 use Rattle.flow_core.proofs.PlacesOfLinks.{begins_here, ends_here}
 
 module _ {W : Type 0} (layout : Layout W) (meaning : ℕ → Value → Result (List Value) ℕ) where

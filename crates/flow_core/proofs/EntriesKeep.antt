@@ -4,7 +4,7 @@ use Rattle.flow_link.specs.declared.plan.LinkSource.{LinkSource}
 use Rattle.flow_link.specs.declared.plan.LinkSource.TheVariants.{Block, Input}
 use Rattle.flow_link.specs.Layout.{Layout}
 use Rattle.flow_link.specs.Plan.{link_in}
-use Rattle.flow_lists.proofs.PlacesTell.{element_set}
+use Rattle.flow_link.proofs.PlacesTell.{element_set}
 use Rattle.flow_block.specs.Planned.{input_place}
 use Rattle.flow_input.specs.Input.{InputState, InputCall, after_input, input_view, is_unseen, no_input}
 use Rattle.flow_input.specs.InputKeeps.{InputsKeep, InputLaw, MayCallInput}

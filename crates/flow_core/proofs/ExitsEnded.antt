@@ -25,7 +25,7 @@ use Rattle.flow_core.specs.State.{NetState, exit_at, line_at, ends_of, target_fr
 use Rattle.flow_core.specs.Statements.{EndedExitsStay}
 use Rattle.flow_core.proofs.PlacesOfLinks.{leads_there}
 use Rattle.flow_core.proofs.StagesShow.{target_shows, target_shown}
-use Rattle.flow_lists.proofs.PlacesTell.{element_set, places_differ}
+use Rattle.flow_link.proofs.PlacesTell.{element_set, places_differ}
 
 -- a link that has ended allows no move
 none_after : (how : LinkEnd) (next : Move) → phase_after (Ended how) next ≡ None

@@ -12,13 +12,13 @@ use Rattle.flow_link.specs.declared.plan.LinkTarget.{LinkTarget}
 use Rattle.flow_link.specs.declared.plan.LinkTarget.TheVariants.{Port, Exit}
 use Rattle.flow_link.specs.Facts.{facts_in}
 use Rattle.flow_link.specs.Layout.{Layout}
-use Rattle.flow_lists.specs.Lists.{below, every}
+use Rattle.flow_link.specs.Lists.{below, every}
 use Rattle.flow_link.specs.LooksKeep.{fresh_source, fresh_target}
 use Rattle.flow_link.specs.Plan.{block_in, link_in, port_count, ports_by_kind, is_one_taker, is_write_once}
 use Rattle.flow_link.specs.Views.{SourceView}
 use Rattle.flow_link.specs.PlanFaults.{is_name, is_in, allows, input_rule, output_rule, capacity_rule, work_rule, lanes_rule, size_rule, ports_rule, greedy_rule, keys_fit, ranges_fit, options_fit}
 use Rattle.flow_link.specs.Trace.{InputTrace, nothing_posted}
-use Rattle.flow_lists.proofs.ListTests.{length_numbers}
+use Rattle.flow_link.proofs.ListTests.{length_numbers}
 use Rattle.flow_link.proofs.LooksKeepOrder.{looks_keep}
 use Rattle.flow_intake.specs.Port.{fresh_end as fresh_in, end_in as in_at, fresh_port}
 use Rattle.flow_outlet.specs.End.{fresh_end, no_end}
@@ -39,7 +39,7 @@ use Rattle.flow_core.specs.Keeps.{LineKeeps}
 use Rattle.flow_core.specs.State.{NetState, fresh_net, fresh_line, source_from, target_from, no_node}
 use Rattle.flow_core.specs.Statements.{FreshKeeps}
 use Rattle.flow_core.proofs.LinesKeep.{line_keeps}
-use Rattle.flow_lists.proofs.PlacesTell.{below_at}
+use Rattle.flow_link.proofs.PlacesTell.{below_at}
 
 -- a plan gives each block a lane
 lane_between : (lanes : Option ℕ) → is_in 1 16 lanes ≡ true → 0 < unwrap_or lanes 1

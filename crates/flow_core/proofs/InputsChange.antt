@@ -16,8 +16,8 @@ use Rattle.flow_link.specs.Layout.{Layout}
 use Rattle.flow_link.specs.Phase.{phase_after}
 use Rattle.flow_link.specs.Plan.{link_in}
 use Rattle.flow_link.specs.Trace.{InputTrace}
-use Rattle.flow_lists.specs.Lists.{every}
-use Rattle.flow_lists.proofs.PlacesTell.{element_set}
+use Rattle.flow_link.specs.Lists.{every}
+use Rattle.flow_link.proofs.PlacesTell.{element_set}
 use Rattle.flow_outlet.specs.Law.{is_posted}
 use Rattle.flow_block.specs.Planned.{input_place}
 use Rattle.flow_input.specs.Input.{InputState, InputCall, fresh_input, input_trace, is_of_net, no_input}

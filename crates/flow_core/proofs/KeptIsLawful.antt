@@ -16,7 +16,7 @@ use Rattle.flow_link.specs.Plan.{link_in}
 use Rattle.flow_lawful.specs.Shape.{Shape}
 use Rattle.flow_link.specs.Trace.{BlockTrace, is_used_up}
 use Rattle.flow_lawful.proofs.LawfulByParts.{composes}
-use Rattle.flow_lists.proofs.ListTests.{every_below}
+use Rattle.flow_link.proofs.ListTests.{every_below}
 use Rattle.flow_intake.specs.Port.{PortState}
 use Rattle.flow_link.specs.PlanFaults.{is_in}
 use Rattle.std.proofs.lemmas.Bool.{ne_eqb}

@@ -20,7 +20,7 @@ use Rattle.flow_link.specs.declared.stage.TargetStage.{TargetStage as TargetKept
 use Rattle.flow_link.specs.declared.stage.TargetStage.TheVariants as target
 use Rattle.flow_link.specs.Layout.{Layout}
 use Rattle.flow_link.specs.declared.trace.Outcome.{Outcome}
-use Rattle.flow_lists.specs.Lists.{is_empty}
+use Rattle.flow_link.specs.Lists.{is_empty}
 use Rattle.flow_link.specs.LooksKeep.{SeenAt}
 use Rattle.flow_link.specs.Phase.{phase_after}
 use Rattle.flow_link.specs.Plan.{link_in, is_one_taker}

@@ -26,7 +26,7 @@ use Rattle.flow_core.specs.State.{NetState, node_at, no_node, input_at, exit_at,
 use Rattle.flow_core.specs.State.{target_from}
 use Rattle.flow_core.proofs.PlacesOfLinks.{out_there, port_there, entry_there, leads_there}
 use Rattle.flow_core.proofs.SourcesByKind.{shared_view, copied_view, same_kind}
-use Rattle.flow_lists.proofs.PlacesTell.{count_within, counts_differ, element_set, place_rises, places_differ}
+use Rattle.flow_link.proofs.PlacesTell.{count_within, counts_differ, element_set, place_rises, places_differ}
 
 module _ {W : Type 0} (layout : Layout W) where
   -- what the source and the target of a link know

@@ -19,7 +19,7 @@ use Rattle.flow_block_law.proofs.PlacesOfCopies.{copy_out_of}
 use Rattle.flow_block_law.proofs.PlacesOfLinks.{end_out_of}
 use Rattle.flow_core.specs.Keeps.{IsRun}
 use Rattle.flow_core.specs.MovesFit.{out_count, out_rule}
-use Rattle.flow_lists.proofs.PlacesTell.{place_rises, place_finds}
+use Rattle.flow_link.proofs.PlacesTell.{place_rises, place_finds}
 
 module _ {W : Type 0} (layout : Layout W) where
   -- a link that leads so passes the test of the links that do

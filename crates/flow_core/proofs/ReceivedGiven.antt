@@ -14,8 +14,8 @@ use Rattle.flow_link.specs.Told.{IsTakenOrUnderWay}
 use Rattle.flow_link.specs.Trace.{gave_over, marks_of}
 use Rattle.flow_link.specs.Views.{SourceStage, TargetStage}
 use Rattle.flow_link.proofs.LinksTell.{links_tell}
-use Rattle.flow_lists.specs.Lists.{is_front}
-use Rattle.flow_lists.proofs.ListTests.{front_of_front}
+use Rattle.flow_link.specs.Lists.{is_front}
+use Rattle.flow_link.proofs.ListTests.{front_of_front}
 use Rattle.flow_lawful.proofs.LinksByParts.{all_or_all_but_one}
 use Rattle.flow_exit.specs.Exit.{ExitState}
 use Rattle.flow_exit.specs.ExitKeeps.{ExitLaw, comes, is_plain}

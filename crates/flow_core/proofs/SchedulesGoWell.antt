@@ -14,7 +14,7 @@ use Rattle.flow_link.specs.Layout.{Layout}
 use Rattle.flow_link.specs.Phase.{phase_after}
 use Rattle.flow_link.specs.Plan.{link_in}
 use Rattle.flow_link.specs.Posted.{ends_by_number}
-use Rattle.flow_lists.specs.Lists.{every}
+use Rattle.flow_link.specs.Lists.{every}
 use Rattle.flow_link.specs.Trace.{InputTrace}
 use Rattle.flow_block.specs.Planned.{exit_place}
 use Rattle.flow_exit.specs.Exit.{ExitState, ExitCall, caller_of, fresh_exit, exit_call, exit_after}

@@ -12,12 +12,12 @@ use Rattle.flow_link.specs.declared.trace.Mark.TheVariants.{Took, Gave, Complete
 use Rattle.flow_link.specs.Facts.{facts_in}
 use Rattle.flow_lawful.specs.Law.{is_own_mark}
 use Rattle.flow_link.specs.Layout.{Layout}
-use Rattle.flow_lists.specs.Lists.{every}
+use Rattle.flow_link.specs.Lists.{every}
 use Rattle.flow_link.specs.Plan.{block_in, link_in, no_link, ends_at, ends_at_port, links_into, is_sole, is_reserving}
 use Rattle.flow_link.specs.Trace.{took_at, took_over}
 use Rattle.flow_block_law.specs.NodeLaw.{run_seen_by}
 use Rattle.flow_core.proofs.PlacesOfLinks.{ends_here}
-use Rattle.flow_lists.proofs.PlacesTell.{count_within, counts_differ}
+use Rattle.flow_link.proofs.PlacesTell.{count_within, counts_differ}
 
 -- where one link at most leads into a block, two links that lead there are one
 counted_into : (b : ℕ) (links : List Link) → count_by (λ link. ends_at b link.target) links ≡ links_into b links

@@ -26,7 +26,7 @@ use Rattle.flow_link.specs.Views.{SourceStage, SourceView, TargetStage}
 use Rattle.flow_lawful.proofs.LinksAtRest.{links_rest}
 use Rattle.flow_link.proofs.LooksKeepOrder.{looks_keep}
 use Rattle.flow_lawful.proofs.QuietByParts.{rests_compose}
-use Rattle.flow_lists.proofs.ListTests.{never_both}
+use Rattle.flow_link.proofs.ListTests.{never_both}
 use Rattle.flow_intake.specs.Port.{end_in}
 use Rattle.flow_outlet.specs.Outlet.{end_at, stage_at}
 use Rattle.flow_block.specs.Block.{port_at}
@@ -35,7 +35,8 @@ use Rattle.flow_input.specs.InputKeeps.{InputsAreParts}
 use Rattle.flow_block_law.specs.NextCopies.{next_copy}
 use Rattle.flow_block_law.specs.NextMoves.{next_in, next_out, next_source}
 use Rattle.flow_block.specs.Node.{NodeState, in_view, source_view}
-use Rattle.flow_block_law.specs.NodeRests.{NodesAreStill, NodesRest, HasNothingToDo, EndsRest, HoldsByPlan, rests_in, rests_out, is_asked}
+use Rattle.flow_block_law.specs.NodeRests.{NodesAreStill, NodesRest, HasNothingToDo, EndsRest, HoldsByPlan, rests_in}
+use Rattle.flow_link.specs.Stage.{rests_out, is_asked}
 use Rattle.flow_block_law.specs.NodeSeen.{NodesAreLawful}
 use Rattle.flow_block.specs.Peeks.{may_make, may_begin, may_end, may_complete, next_fault, may_finish}
 use Rattle.flow_spread.specs.Spread.{link_at, stage_at as copy_stage}

@@ -1,7 +1,7 @@
 -- What the network leaves of its inputs.
 use Rattle.std.specs.Prelude.{◌≡◌, ℕ, Bool, true, not, length, get_or, Option}
 use Rattle.std.specs.Option.{ForSome}
-use Rattle.flow_lists.specs.Lists.{every}
+use Rattle.flow_link.specs.Lists.{every}
 use Rattle.flow_outlet.specs.Law.{is_posted}
 use Rattle.flow_input.specs.Input.{InputState, InputCall, is_of_net, no_input}
 use Rattle.flow_input.specs.InputKeeps.{PostedStays}

@@ -1,7 +1,7 @@
 -- The numbers of faults: where no work faults by number 0 and no input ends by it, no block does.
 use Rattle.std.specs.Prelude.{◌≡◌, ◌≢◌, ℕ, true, false, List, length, count_by, Err}
 use Rattle.flow_value.specs.declared.value.Value.{Value}
-use Rattle.flow_lists.specs.Lists.{every}
+use Rattle.flow_link.specs.Lists.{every}
 use Rattle.flow_link.specs.Trace.{InputTrace, has_fault, marks_of}
 use Rattle.flow_link.specs.Posted.{ends_by_number}
 use Rattle.flow_core.specs.Events.{NetEvent}

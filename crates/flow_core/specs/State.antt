@@ -19,7 +19,7 @@ use Rattle.flow_input.specs.Input.{InputState, fresh_input, no_input, input_view
 use Rattle.flow_block.specs.Node.{NodeState, in_view, source_view, node_trace}
 use Rattle.flow_block.specs.Planned.{in_place, out_place, input_place, exit_place, links_out, fresh_node}
 use Rattle.flow_exit.specs.Exit.{CallerState, ExitState, caller_of, fresh_exit, exit_view}
-use Rattle.flow_lists.specs.Lists.{below}
+use Rattle.flow_link.specs.Lists.{below}
 use Rattle.std.specs.Prelude.{length, replicate}
 
 -- blocks and links by their numbers, inputs in the order of their blocks, and exits in the order of their links. A link has its

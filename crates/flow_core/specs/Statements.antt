@@ -10,7 +10,7 @@ use Rattle.flow_link.specs.Phase.{phase_after}
 use Rattle.flow_link.specs.Plan.{block_in, link_in, is_one_taker}
 use Rattle.flow_lawful.specs.Quiet.{Quiet}
 use Rattle.flow_link.specs.Trace.{InputTrace, gave_over, marks_of, took_over}
-use Rattle.flow_lists.specs.Lists.{every, is_front}
+use Rattle.flow_link.specs.Lists.{every, is_front}
 use Rattle.flow_link.specs.Posted.{ends_by_number}
 use Rattle.flow_link.specs.Views.{SourceStage}
 use Rattle.flow_link.specs.declared.phase.LinkEnd.{LinkEnd}

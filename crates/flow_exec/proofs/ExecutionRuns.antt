@@ -7,7 +7,7 @@ use Rattle.flow_value.specs.declared.value.Value.{Value}
 use Rattle.flow_link.specs.declared.draft.BlockKind.{BlockKind}
 use Rattle.flow_link.specs.declared.draft.BlockKind.TheVariants.{Buffer, Action}
 use Rattle.flow_link.specs.Plan.{has_work}
-use Rattle.flow_lists.proofs.ListTests.{never_both}
+use Rattle.flow_link.proofs.ListTests.{never_both}
 use Rattle.flow_intake.specs.Port.{PortState}
 use Rattle.flow_intake.specs.Calls.{port_fails}
 use Rattle.flow_block.specs.Block.{BlockState, held_by, with_jobs, keeps_results, begins, ends_job, yields_all, yields_where}

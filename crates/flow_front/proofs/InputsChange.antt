@@ -6,7 +6,7 @@ use Rattle.std.proofs.Math.Seq.{map-set_same}
 use Rattle.flow_link.specs.Trace.{InputTrace}
 use Rattle.flow_link.specs.declared.posted.Posted.{Posted}
 use Rattle.flow_link.specs.Posted.{input_of, ends_by_number, is_numbered_ending}
-use Rattle.flow_lists.specs.Lists.{every}
+use Rattle.flow_link.specs.Lists.{every}
 use Rattle.flow_front.specs.Inputs.{changed_at, nothing_posted}
 
 -- one list is changed, and the others stay

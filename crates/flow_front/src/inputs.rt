@@ -1,6 +1,6 @@
 //! The inputs of a plan, with what is posted to them before its network starts.
 ghost use Rattle.std.specs.Prelude.{◌≡◌, true, length, map, count_by};
-ghost use Rattle.flow_lists.specs.Lists.{every};
+ghost use Rattle.flow_link.specs.Lists.{every};
 ghost use Rattle.flow_link.specs.Planned.{layout_of};
 ghost use Rattle.flow_link.specs.Posted.{input_of, ends_by_number};
 

@@ -4,7 +4,7 @@ use Rattle.std.proofs.lemmas.Bool.{and_from, and_parts, eqb-true, eqb-false, ne_
 use Rattle.std.proofs.lemmas.List.{take_at, drop_at, take-append-drop}
 use Rattle.flow_value.specs.View.{values_of-items_from}
 use Rattle.flow_value.specs.declared.value.Value.{Value}
-use Rattle.flow_lists.specs.Lists.{every, below, numbers_from, concat}
+use Rattle.flow_link.specs.Lists.{every, below, numbers_from, concat}
 use Rattle.flow_link.specs.Making.{Arrival, arrived_at, all_items, rows_weight}
 use Rattle.flow_group.specs.Group.{came_at, row_of}
 use Rattle.flow_group.specs.Groups.{group_row}

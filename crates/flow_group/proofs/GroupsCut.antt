@@ -5,9 +5,9 @@ use Rattle.std.proofs.lemmas.List.{length-map, length-set, get_or-set_same, take
 use Rattle.flow_value.specs.View.{values_of-items_from}
 use Rattle.flow_value.specs.declared.value.Value.{Value}
 use Rattle.flow_value.specs.declared.value.Value.TheVariants.{Int}
-use Rattle.flow_lists.specs.Lists.{every, below, numbers_from, concat, same_values}
+use Rattle.flow_link.specs.Lists.{every, below, numbers_from, concat, same_values}
 use Rattle.flow_link.specs.Making.{Arrival, arrived_at, all_items, column, items_of, is_row, is_any_row, is_group, are_cut, rows_weight}
-use Rattle.flow_lists.proofs.ListTests.{every_below, same_values_where}
+use Rattle.flow_link.proofs.ListTests.{every_below, same_values_where}
 use Rattle.flow_intake.specs.Port.{EndState, PortState, fresh_port}
 use Rattle.flow_intake.specs.PortLaw.{has_ended}
 use Rattle.flow_intake.specs.Calls.{takes}

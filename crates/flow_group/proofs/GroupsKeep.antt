@@ -3,7 +3,7 @@ use Rattle.std.proofs.Common.{◌≡◌, ℕ, zero, suc, ◌+◌, ◌<◌, ◌�
 use Rattle.std.proofs.lemmas.Bool.{and_from, and_parts, or_left, or_right, lt-ltb, le-leb, leb-true, leb-false}
 use Rattle.std.proofs.lemmas.List.{length-map, map-append, take-map, drop-map, drop_all, length-take, take-append-drop}
 use Rattle.flow_value.specs.declared.value.Value.{Value}
-use Rattle.flow_lists.specs.Lists.{every, is_empty, numbers_from, concat}
+use Rattle.flow_link.specs.Lists.{every, is_empty, numbers_from, concat}
 use Rattle.flow_link.specs.Making.{Arrival, arrived_at, are_groups, rows_weight}
 use Rattle.flow_link.proofs.OneMoreMark.{every_more}
 use Rattle.flow_intake.specs.Port.{PortState}

@@ -3,7 +3,7 @@ use Rattle.std.proofs.Common.{◌≡◌, ℕ, zero, suc, ◌+◌, ◌-◌, ◌<�
 use Rattle.std.proofs.lemmas.Bool.{and_parts, leb-false}
 use Rattle.std.proofs.lemmas.List.{length-drop, take-append-drop}
 use Rattle.flow_value.specs.declared.value.Value.{Value}
-use Rattle.flow_lists.specs.Lists.{is_empty}
+use Rattle.flow_link.specs.Lists.{is_empty}
 use Rattle.flow_intake.specs.Port.{PortState}
 use Rattle.flow_group.specs.Group.{came_at, takes_first, takes_from, takes_group}
 use Rattle.flow_group.specs.Taken.{IsTaken, PortsTaken, HasEmptyPort, HoldsLess, NothingMore, port_in}

@@ -5,9 +5,9 @@ use Rattle.std.proofs.lemmas.List.{length-map, drop_at, get_or_append_left}
 use Rattle.flow_value.specs.View.{items_from, values_of, items_from-values_of}
 use Rattle.flow_value.specs.declared.value.Value.{Value}
 use Rattle.flow_value.specs.declared.value.Value.TheVariants.{Int, Text, Row}
-use Rattle.flow_lists.specs.Lists.{every, below, numbers_from, same_values}
+use Rattle.flow_link.specs.Lists.{every, below, numbers_from, same_values}
 use Rattle.flow_link.specs.Making.{is_row, column, items_of}
-use Rattle.flow_lists.proofs.ListTests.{every_below, same_values_where}
+use Rattle.flow_link.proofs.ListTests.{every_below, same_values_where}
 use Rattle.flow_group.specs.Tuples.{TuplesLaw, TuplesTell, PortInTuples}
 
 -- the values at one place, by the number of their tuple

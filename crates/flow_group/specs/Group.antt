@@ -3,7 +3,7 @@ use Rattle.std.specs.Prelude.{ℕ, suc, ◌+◌, ◌==◌, leb, cond, Bool, ◌&
 use Rattle.flow_value.specs.View.{items_from}
 use Rattle.flow_value.specs.declared.value.Value.{Value}
 use Rattle.flow_value.specs.declared.value.Value.TheVariants.{Row}
-use Rattle.flow_lists.specs.Lists.{is_empty}
+use Rattle.flow_link.specs.Lists.{is_empty}
 use Rattle.flow_intake.specs.Port.{PortState}
 
 -- the order in which messages came in

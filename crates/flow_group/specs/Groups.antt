@@ -2,7 +2,7 @@
 -- came in, and each group is a row of rows, one for each port.
 use Rattle.std.specs.Prelude.{◌≡◌, ℕ, ◌<◌, ◌==◌, ltb, Bool, true, false, ◌&&◌, ◌||◌, List, [], ◌∷◌, ◌++◌, length, get_or, set, map, drop, None}
 use Rattle.flow_value.specs.declared.value.Value.{Value}
-use Rattle.flow_lists.specs.Lists.{every, is_empty, below, concat}
+use Rattle.flow_link.specs.Lists.{every, is_empty, below, concat}
 use Rattle.flow_link.specs.Making.{Arrival, arrived_at, all_items, column, are_groups, are_cut, rows_weight}
 use Rattle.flow_intake.specs.Port.{EndState, PortState, fresh_port}
 use Rattle.flow_intake.specs.PortLaw.{has_ended}

@@ -4,7 +4,7 @@ use Rattle.std.specs.Prelude.{◌≡◌, ℕ, ◌+◌, ◌<◌, ◌==◌, cond, 
 use Rattle.flow_value.specs.View.{items_from}
 use Rattle.flow_value.specs.declared.value.Value.{Value}
 use Rattle.flow_value.specs.declared.value.Value.TheVariants.{Int, Row}
-use Rattle.flow_lists.specs.Lists.{every, below, same_values}
+use Rattle.flow_link.specs.Lists.{every, below, same_values}
 use Rattle.flow_link.specs.Making.{is_row, column}
 use Rattle.flow_intake.specs.Port.{EndState, PortState, fresh_port}
 use Rattle.flow_intake.specs.Calls.{takes}

@@ -1,7 +1,7 @@
 //! The order in which messages came in over several ports.
 ghost use Rattle.std.specs.Prelude.{◌≡◌, ◌<◌, ◌≤◌, ◌-◌, [], ◌∷◌, ◌++◌, length, take, drop, max, OnOk, OnErr};
 ghost use Rattle.std.specs.VecDeque.{deque_len, deque_capacity};
-ghost use Rattle.flow_lists.specs.Lists.{is_empty};
+ghost use Rattle.flow_link.specs.Lists.{is_empty};
 ghost use Rattle.flow_group.specs.Group.{ArrivalsState, came_at, drops_group};
 
 use std::alloc::{AllocError, Global};

@@ -30,7 +30,7 @@ use Rattle.flow_block.proofs.PortsChange.{each_after_one, each_after_all}
 use Rattle.flow_block.proofs.RoomBack.{back_at, length_back, kept_back, each_after_back, back_fits}
 use Rattle.flow_block.proofs.TargetMoves.{some_port, shown_is}
 use Rattle.flow_block.proofs.TargetStands.{not_noted}
-use Rattle.flow_lists.proofs.TestsTell.{every_tells}
+use Rattle.flow_link.proofs.TestsTell.{every_tells}
 use Rattle.flow_block.specs.Peeks.{may_finish, could_stop, nothing_comes, is_complete, holds_nothing, is_copied_out}
 use Rattle.flow_link.specs.declared.trace.Outcome.{Outcome}
 use Rattle.flow_kinds.proofs.PortRests.{rest_of, answered_rest, consumed_rest, noted_rest}

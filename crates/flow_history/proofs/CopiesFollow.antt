@@ -25,7 +25,7 @@ use Rattle.flow_spread.proofs.NextOffer.{next_is, prepared_may}
 use Rattle.flow_block.specs.Traits.{copy_over, may_take_copy, may_keep_copy}
 use Rattle.flow_block.proofs.CopyKept.{looked_end as copy_looked, may_reserve, kept_so, is_reserved}
 use Rattle.flow_block.proofs.CopyStands.{is_asked}
-use Rattle.flow_lists.proofs.PlacesNamed.{place_set, place_map}
+use Rattle.flow_link.proofs.PlacesNamed.{place_set, place_map}
 use Rattle.flow_history.specs.Copied.{link_id, NamesItself}
 use Rattle.flow_history.specs.History.{Gift, given_over, gifts_of}
 

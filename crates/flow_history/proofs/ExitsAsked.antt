@@ -23,7 +23,7 @@ use Rattle.flow_outlet.specs.declared.ends.LinkRule.{LinkRule}
 use Rattle.flow_outlet.specs.declared.ends.OutEnd.{OutEnd}
 use Rattle.flow_outlet.proofs.LawKept.{calls_keep_law, gives_in_order}
 use Rattle.flow_outlet.proofs.LinkCallsKeep.{link_calls_keep}
-use Rattle.flow_lists.proofs.PlacesNamed.{place_map}
+use Rattle.flow_link.proofs.PlacesNamed.{place_map}
 
 -- A gift keeps the law
 

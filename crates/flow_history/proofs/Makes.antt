@@ -6,7 +6,7 @@ use Rattle.flow_value.specs.View.{values_of-items_from}
 use Rattle.flow_value.specs.declared.value.Value.{Value}
 use Rattle.flow_link.specs.declared.draft.BlockKind.{BlockKind}
 use Rattle.flow_link.specs.declared.draft.BlockKind.TheVariants.{Buffer, Broadcast, Batch, Join}
-use Rattle.flow_lists.specs.Lists.{every}
+use Rattle.flow_link.specs.Lists.{every}
 use Rattle.flow_link.specs.Making.{items_of, all_items, row_weight}
 use Rattle.flow_link.specs.Plan.{has_work, is_broadcast, is_one_taker, is_write_once}
 use Rattle.flow_link.specs.Kinds.{unit_of}

@@ -22,7 +22,7 @@ use Rattle.flow_block.specs.Block.{BlockState}
 use Rattle.flow_block.specs.BlockFits.{fresh_block}
 use Rattle.flow_block.specs.Copies.{fresh_copies}
 use Rattle.flow_block.specs.Planned.{links_from, links_to, rule_of, lanes_of, size_of, room_of}
-use Rattle.flow_lists.proofs.PlacesNamed.{place_is}
+use Rattle.flow_link.proofs.PlacesNamed.{place_is}
 use Rattle.flow_block_law.proofs.PlacesOfCopies.{rule_at_end, rule_at, copies_differ}
 use Rattle.flow_history.specs.Calls.{Call, MayCallInOrder, Does, Fits, Step, AllDone, after_all}
 use Rattle.flow_history.specs.Copied.{MayCallByRule, NamesItself, link_id}

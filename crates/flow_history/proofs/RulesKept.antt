@@ -12,7 +12,7 @@ use Rattle.flow_link.specs.declared.phase.Phase.TheVariants.{Idle, Wanted, Asked
 use Rattle.flow_link.specs.declared.phase.Phase.{Phase}
 use Rattle.flow_link.specs.declared.stage.SourceStage.TheVariants as source
 use Rattle.flow_link.specs.LinkOk.{IsWithin}
-use Rattle.flow_lists.specs.Lists.{every}
+use Rattle.flow_link.specs.Lists.{every}
 use Rattle.flow_link.specs.Stage.{source_looks}
 use Rattle.flow_link.proofs.OneMoreMark.{every_more}
 use Rattle.flow_outlet.specs.ByLink.{IsAsked, place_of, answered, answer_stage, answer_declined, is_there, has_room, tests_take, tests_consume, forgotten, forgets, gives_home, MayReserve, reserved, reserves, keeps, IsReserved, forgotten_for, releases}
@@ -22,7 +22,7 @@ use Rattle.flow_outlet.specs.Law.{admits_head, may_go_past}
 use Rattle.flow_outlet.specs.Outlet.{OutletState, head_of, is_empty, is_at, end_at, stage_at, may_offer, puts, lacks_ids, prepares, offers, looks, gives, given_end, holds}
 use Rattle.flow_outlet.specs.declared.ends.OutEnd.{OutEnd}
 use Rattle.flow_block.specs.Traits.{is_ready, end_shown, source_over, may_take}
-use Rattle.flow_lists.proofs.PlacesNamed.{place_set, place_map}
+use Rattle.flow_link.proofs.PlacesNamed.{place_set, place_map}
 use Rattle.flow_block.proofs.SourceStands.{shown_known, shown_out}
 use Rattle.flow_history.specs.History.{Gift, given_over, gifts_of}
 use Rattle.flow_history.specs.Ordered.{NamesItsEnd, GivenByRule}

@@ -25,7 +25,7 @@ use Rattle.flow_block_law.proofs.JobsEnd.{put_nothing}
 use Rattle.flow_block.proofs.ResultsKept.{held_then}
 use Rattle.flow_block_law.proofs.JobsHold.{back_at}
 use Rattle.flow_block.proofs.PortsChange.{kept_at_all, kept_at_one}
-use Rattle.flow_lists.proofs.TestsTell.{none_is}
+use Rattle.flow_link.proofs.TestsTell.{none_is}
 use Rattle.flow_block_law.proofs.WeightsOfResults.{weighs_taken}
 use Rattle.flow_history.proofs.ExitsGo.{given_value, exits_go}
 use Rattle.flow_kinds.proofs.CopiesNone.{never_at_once, copies_none}

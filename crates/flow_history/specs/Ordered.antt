@@ -5,7 +5,7 @@ use Rattle.flow_value.specs.declared.value.Value.{Value}
 use Rattle.flow_value.specs.declared.work.WorkFault.{WorkFault}
 use Rattle.flow_link.specs.declared.draft.BlockKind.{BlockKind}
 use Rattle.flow_link.specs.LinkOk.{IsWithin}
-use Rattle.flow_lists.specs.Lists.{every}
+use Rattle.flow_link.specs.Lists.{every}
 use Rattle.flow_link.specs.Making.{Arrival}
 use Rattle.flow_link.specs.Plan.{has_work, is_one_taker}
 use Rattle.flow_link.specs.SourceCalls.{SourceCall}

@@ -4,8 +4,8 @@ use Rattle.std.proofs.lemmas.Bool.{and_from, and_parts}
 use Rattle.std.proofs.lemmas.List.{take-append-drop}
 use Rattle.flow_value.specs.declared.value.Value.{Value}
 use Rattle.flow_value.specs.Same.{same_value, same_value-Decides}
-use Rattle.flow_lists.specs.Lists.{is_front}
-use Rattle.flow_lists.proofs.ListTests.{front_append}
+use Rattle.flow_link.specs.Lists.{is_front}
+use Rattle.flow_link.proofs.ListTests.{front_append}
 use Rattle.flow_intake.specs.Calls.{first_of}
 
 -- the value that comes next is there, and is the last of those that were given once it is

@@ -10,7 +10,7 @@ use Rattle.flow_link.specs.declared.stage.SourceStage.TheVariants as source
 use Rattle.flow_link.specs.declared.trace.Ending.{Ending}
 use Rattle.flow_link.specs.declared.trace.Ending.TheVariants as ending
 use Rattle.flow_lawful.specs.Composes.{Ends, InputKeeps}
-use Rattle.flow_lists.specs.Lists.{is_empty, is_front}
+use Rattle.flow_link.specs.Lists.{is_empty, is_front}
 use Rattle.flow_lawful.specs.Quiet.{is_open}
 use Rattle.flow_lawful.specs.RestsByParts.{InputIsStill, InputRests, is_over, is_to_hand_over, is_wished_for}
 use Rattle.flow_link.specs.Stage.{source_stage_of}
@@ -19,9 +19,9 @@ use Rattle.flow_link.specs.Views as views
 use Rattle.flow_outlet.specs.End.{id_of}
 use Rattle.flow_input.specs.Input.{InputState, has_next, end_by, end_move, move_from, input_move}
 use Rattle.flow_input.specs.InputKeeps.{InputLaw, IsInputOf, InputsAreParts}
-use Rattle.flow_block_law.specs.NodeLaw.{is_kept}
-use Rattle.flow_block_law.specs.NodeRests.{rests_out, is_asked}
-use Rattle.flow_block_law.proofs.EndsTell.{ended_stage, free_back}
+use Rattle.flow_link.specs.Stage.{is_kept}
+use Rattle.flow_link.specs.Stage.{rests_out, is_asked}
+use Rattle.flow_link.proofs.StagesKept.{ended_stage, free_back}
 use Rattle.flow_input.proofs.InputLists.{front_taken}
 
 -- what is left behind a first part

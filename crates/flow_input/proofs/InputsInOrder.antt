@@ -11,7 +11,7 @@ use Rattle.flow_link.specs.Stage.{source_looks}
 use Rattle.flow_intake.specs.Calls.{first_of}
 use Rattle.flow_outlet.specs.End.{id_of, is_free}
 use Rattle.flow_outlet.proofs.LookTells.{look_tells}
-use Rattle.flow_block_law.proofs.EndsTell.{none_kept_by_looks}
+use Rattle.flow_link.proofs.StagesKept.{none_kept_by_looks}
 use Rattle.flow_input.specs.Input.{InputState, InputCall, after_input, end_by, has_next, is_turned_down, is_wanted, next_id, stands_at, takes_back, without_next}
 use Rattle.flow_input.specs.InputKeeps.{InputLaw, IsIdle, MayCallInput, is_at_home}
 use Rattle.flow_input.specs.Sends.{is_crossing, settled, takes_more}

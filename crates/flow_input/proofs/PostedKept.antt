@@ -2,7 +2,7 @@
 use Rattle.std.proofs.Common.{◌≡◌, ◌≤◌, cond, Bool, true, false, take, refl, ◌∙◌, arith}
 use Rattle.flow_link.specs.declared.phase.Phase.{Phase}
 use Rattle.flow_link.specs.Stage.{source_looks}
-use Rattle.flow_lists.proofs.ListTests.{front_refl}
+use Rattle.flow_link.proofs.ListTests.{front_refl}
 use Rattle.flow_outlet.specs.Law.{is_posted}
 use Rattle.flow_input.specs.Input.{InputState, InputCall, after_input, is_of_net, is_turned_down, stands_at, takes_back}
 use Rattle.flow_input.specs.InputKeeps.{PostedIsKept, PostedStays}

@@ -14,14 +14,14 @@ use Rattle.flow_link.specs.Moves.{offering, posting, giving, ending}
 use Rattle.flow_link.specs.Posted.{ends_by_number, is_numbered_ending}
 use Rattle.flow_lawful.specs.RestsByParts.{InputIsStill, InputRests}
 use Rattle.flow_link.specs.Trace.{InputTrace, Run, input_of}
-use Rattle.flow_lists.specs.Lists.{is_front}
+use Rattle.flow_link.specs.Lists.{is_front}
 use Rattle.flow_outlet.specs.End.{id_of, is_free}
 use Rattle.flow_outlet.specs.Law.{is_posted, is_refused}
 use Rattle.flow_poll.specs.Sends.{Begins, Tells}
 use Rattle.flow_input.specs.Input.{InputState, InputCall, fresh_input, next_value, next_id, has_next, end_by, input_move, after_input, input_view, input_trace, is_wanted, is_of_net, is_unseen}
 use Rattle.flow_input.specs.Sends.{has_id, begun_as, is_crossing, is_idle, sends_of, settled, takes_more, told_next, after_told}
-use Rattle.flow_block_law.specs.NodeLaw.{is_kept}
-use Rattle.flow_block_law.specs.NodeRests.{rests_out, is_asked}
+use Rattle.flow_link.specs.Stage.{is_kept}
+use Rattle.flow_link.specs.Stage.{rests_out, is_asked}
 
 -- nothing is under way, and nothing comes any more where it refuses or has ended
 abbrev pub is_at_home : SourceStage → Bool

@@ -3,7 +3,7 @@ use Rattle.std.proofs.Common.{◌≡◌, ℕ, ◌+◌, Bool, true, false, ◌&&�
 use Rattle.std.proofs.lemmas.Bool.{and_parts}
 use Rattle.flow_value.specs.declared.message.MessageStatus.TheVariants.{Accepted, Declined, Postponed, DecliningPermanently}
 use Rattle.flow_link.specs.declared.stage.Refusal.{Refusal}
-use Rattle.flow_lists.specs.Lists.{is_empty}
+use Rattle.flow_link.specs.Lists.{is_empty}
 use Rattle.flow_intake.specs.Port.{PortState, is_below, has_room, is_coming}
 use Rattle.flow_intake.specs.Calls.{answer_where, answer_to, first_of, next_where, next_place}
 use Rattle.flow_intake.specs.PortLaw.{has_ended}

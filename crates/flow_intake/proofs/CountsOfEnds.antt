@@ -2,7 +2,7 @@
 use Rattle.std.proofs.Common.{◌≡◌, ℕ, zero, suc, ◌+◌, ◌<◌, ◌≤◌, Bool, true, false, cond, List, [], ◌∷◌, ◌++◌, length, set, refl, arith}
 use Rattle.flow_link.specs.declared.stage.TargetStage.{TargetStage}
 use Rattle.flow_link.specs.declared.stage.TargetStage.TheVariants.{Free, Postponed, Accepted, Consuming, Asking, Holding, Claiming, Arrived, Hand}
-use Rattle.flow_lists.proofs.ListTests.{at_most_one}
+use Rattle.flow_link.proofs.ListTests.{at_most_one}
 use Rattle.flow_intake.specs.Port.{EndState, count_at, stage_in, fresh_end, is_coming, is_owed, is_hand}
 
 -- when one end changes, the count changes by what that end counts before and after

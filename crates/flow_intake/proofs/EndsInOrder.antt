@@ -11,7 +11,7 @@ use Rattle.flow_link.specs.declared.stage.TargetStage.TheVariants.{Free, Refused
 use Rattle.flow_link.specs.LinkOk.{IsWithin}
 use Rattle.flow_link.specs.Stage.{target_looks}
 use Rattle.flow_link.specs.Views.{LinkFacts}
-use Rattle.flow_lists.proofs.ListTests.{at_most_one, counts_no_less}
+use Rattle.flow_link.proofs.ListTests.{at_most_one, counts_no_less}
 use Rattle.flow_intake.specs.Port.{EndState, PortState, fresh_end, end_in, link_in, stage_in, coming, is_below, is_coming, is_hand, is_queued, count_at}
 use Rattle.flow_intake.specs.Calls.{put_stage}
 use Rattle.flow_intake.specs.Queue.{without}

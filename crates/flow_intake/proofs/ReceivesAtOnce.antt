@@ -11,7 +11,7 @@ use Rattle.flow_link.specs.declared.phase.Phase.{Phase}
 use Rattle.flow_link.specs.declared.phase.Phase.TheVariants as phase
 use Rattle.flow_link.specs.declared.stage.TargetStage.{TargetStage}
 use Rattle.flow_link.specs.declared.stage.TargetStage.TheVariants as stage
-use Rattle.flow_lists.specs.Lists.{is_empty}
+use Rattle.flow_link.specs.Lists.{is_empty}
 use Rattle.flow_link.specs.Stage.{target_looks}
 use Rattle.flow_intake.specs.Port.{EndState, PortState, fresh_end, end_in, stage_at, hand_in, is_queued, has_room}
 use Rattle.flow_intake.specs.ByLink.{is_free}

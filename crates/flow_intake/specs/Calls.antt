@@ -10,7 +10,7 @@ use Rattle.flow_link.specs.declared.stage.Refusal.{Refusal}
 use Rattle.flow_link.specs.declared.stage.Refusal.TheVariants.{PortEnded, OwnFault}
 use Rattle.flow_link.specs.declared.stage.TargetStage.{TargetStage}
 use Rattle.flow_link.specs.declared.stage.TargetStage.TheVariants.{Free, Offered, Posted, Postponed, Accepted, Consuming, Asking, Holding, Claiming, Arrived, Hand, Refused}
-use Rattle.flow_lists.specs.Lists.{is_empty}
+use Rattle.flow_link.specs.Lists.{is_empty}
 use Rattle.flow_link.specs.Stage.{target_looks}
 use Rattle.flow_intake.specs.Port.{EndState, PortState, end_in, stage_at, is_offer, is_queued, has_room}
 use Rattle.flow_intake.specs.Queue.{without}

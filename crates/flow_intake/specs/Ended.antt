@@ -3,7 +3,7 @@ use Rattle.std.specs.Prelude.{ℕ, ltb, Bool, true, false, cond, List, [], ◌�
 use Rattle.flow_link.specs.declared.phase.LinkEnd.TheVariants.{Complete, Fault}
 use Rattle.flow_link.specs.declared.stage.TargetStage.{TargetStage}
 use Rattle.flow_link.specs.declared.stage.TargetStage.TheVariants.{Ended}
-use Rattle.flow_lists.specs.Lists.{some}
+use Rattle.flow_link.specs.Lists.{some}
 use Rattle.flow_intake.specs.Port.{EndState}
 
 -- the end has seen that its link ended with completion, or with a fault

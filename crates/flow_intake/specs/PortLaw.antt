@@ -5,7 +5,7 @@ use Rattle.flow_link.specs.declared.stage.Refusal.TheVariants.{PortEnded, OwnFau
 use Rattle.flow_link.specs.declared.stage.TargetStage.{TargetStage}
 use Rattle.flow_link.specs.declared.stage.TargetStage.TheVariants.{Postponed, Consuming, Asking, Holding, Claiming, Refused}
 use Rattle.flow_link.specs.LinkOk.{IsWithin, MayPutOff}
-use Rattle.flow_lists.specs.Lists.{some}
+use Rattle.flow_link.specs.Lists.{some}
 use Rattle.flow_link.specs.Views.{LinkFacts}
 use Rattle.flow_intake.specs.Port.{EndState, PortState, end_in, link_in, coming, is_coming, is_hand, is_queued}
 

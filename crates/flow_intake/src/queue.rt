@@ -2,7 +2,7 @@
 ghost use Rattle.std.specs.Prelude.{◌≡◌, ℕ, ◌<◌, ◌≤◌, ◌+◌, [], ◌∷◌, ◌++◌, true, false, length, max, OnOk, OnErr};
 ghost use Rattle.std.specs.VecDeque.{deque_len, deque_capacity};
 ghost use Rattle.flow_intake.specs.Calls.{first_of};
-ghost use Rattle.flow_lists.specs.Lists.{is_empty};
+ghost use Rattle.flow_link.specs.Lists.{is_empty};
 ghost use Rattle.flow_intake.specs.Queue.{PlaceQueue, without, stands as stands_now, standing};
 ghost use Rattle.flow_intake.specs.Queue.{ArePlaced, AreNumbered, FirstStands};
 

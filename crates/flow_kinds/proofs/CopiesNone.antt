@@ -1,6 +1,6 @@
 -- A block that may take many messages copies none when it takes it.
 use Rattle.std.proofs.Common.{◌≡◌, ◌^◌, ◌==◌, ◌+◌, ltb, Bool, false, not, ◌&&◌, length, ap}
-use Rattle.flow_lists.specs.Lists.{is_empty}
+use Rattle.flow_link.specs.Lists.{is_empty}
 use Rattle.flow_link.specs.Plan.{is_write_once}
 use Rattle.flow_spread.specs.Spread.{is_spread_free}
 use Rattle.flow_block.specs.Block.{BlockState, held_by, copies_taken, copies_at_once, copies_where}

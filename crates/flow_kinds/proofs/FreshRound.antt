@@ -4,7 +4,7 @@ use Rattle.std.proofs.lemmas.Bool.{and_parts}
 use Rattle.flow_value.specs.declared.value.Value.{Value}
 use Rattle.flow_link.specs.declared.stage.TargetStage.{TargetStage}
 use Rattle.flow_link.specs.declared.stage.TargetStage.TheVariants.{Free, Offered, Posted, Refused, Ended}
-use Rattle.flow_lists.specs.Lists.{is_empty}
+use Rattle.flow_link.specs.Lists.{is_empty}
 use Rattle.flow_intake.specs.Port.{EndState, PortState, stage_in, stage_at, coming, count_at, is_coming, is_owed}
 use Rattle.flow_intake.specs.PortLaw.{is_in}
 use Rattle.flow_intake.proofs.CountsOfEnds.{count_there}

@@ -7,7 +7,7 @@ use Rattle.flow_value.specs.declared.message.MessageStatus.TheVariants as status
 use Rattle.flow_link.specs.declared.stage.Refusal.{Refusal}
 use Rattle.flow_link.specs.declared.stage.TargetStage.{TargetStage}
 use Rattle.flow_link.specs.declared.stage.TargetStage.TheVariants.{Free, Offered, Postponed}
-use Rattle.flow_lists.specs.Lists.{is_empty}
+use Rattle.flow_link.specs.Lists.{is_empty}
 use Rattle.flow_intake.specs.Port.{EndState, PortState, fresh_end, fresh_port, end_in, stage_in, stage_at, coming, is_coming, is_queued, has_room}
 use Rattle.flow_intake.specs.PortLaw.{is_in}
 use Rattle.flow_intake.specs.Calls.{first_of, is_front, is_offered, may_be_refused, answer_where, answer_to, put_stage, message_of, refused_by, postpones, refuses, puts_off}

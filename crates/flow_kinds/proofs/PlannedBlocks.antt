@@ -3,7 +3,7 @@ use Rattle.std.proofs.Common.{◌≡◌, ℕ, Bool, true, false, List, [], ◌�
 use Rattle.flow_link.specs.declared.draft.BlockKind.{BlockKind}
 use Rattle.flow_link.specs.declared.draft.BlockKind.TheVariants as kinds
 use Rattle.flow_link.specs.Layout.{Layout}
-use Rattle.flow_lists.specs.Lists.{below}
+use Rattle.flow_link.specs.Lists.{below}
 use Rattle.flow_link.specs.Plan.{port_count, is_write_once, is_reserving, reserves_by_kind}
 use Rattle.flow_intake.specs.Port.{PortState}
 use Rattle.flow_group.proofs.RoundGoes.{pass_at}

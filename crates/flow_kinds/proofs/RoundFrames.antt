@@ -6,7 +6,7 @@ use Rattle.std.proofs.lemmas.List.{length-set, length-map, get_or-set_same, get_
 use Rattle.flow_value.specs.declared.value.Value.{Value}
 use Rattle.flow_link.specs.declared.stage.TargetStage.{TargetStage}
 use Rattle.flow_link.specs.declared.stage.TargetStage.TheVariants.{Free, Postponed, Asking, Holding}
-use Rattle.flow_lists.specs.Lists.{is_empty}
+use Rattle.flow_link.specs.Lists.{is_empty}
 use Rattle.flow_intake.specs.Port.{EndState, PortState, fresh_end, link_in, stage_in, stage_at, coming, count_at, is_coming, is_queued}
 use Rattle.flow_intake.specs.PortLaw.{is_in}
 use Rattle.flow_intake.specs.Calls.{first_of, is_postponed, takes_next}

@@ -1,8 +1,8 @@
 -- What a wish tells, and what holds of how far the ports are.
 use Rattle.std.proofs.Common.{◌≡◌, ℕ, ◌<◌, Bool, true, false, ◌&&◌, ◌||◌, cond, List, length, position, Option, Some, None, is_some, refl, ap, sym, ◌∙◌, arith}
 use Rattle.std.proofs.lemmas.Bool.{and_parts}
-use Rattle.flow_lists.specs.Lists.{below}
-use Rattle.flow_lists.proofs.PlacesNamed.{place_none}
+use Rattle.flow_link.specs.Lists.{below}
+use Rattle.flow_link.proofs.PlacesNamed.{place_none}
 use Rattle.flow_link.specs.declared.phase.Move.{Move}
 use Rattle.flow_link.specs.declared.phase.Move.TheVariants.{Ask, Release}
 use Rattle.flow_link.specs.declared.stage.Refusal.{Refusal}

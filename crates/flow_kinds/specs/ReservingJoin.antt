@@ -3,7 +3,7 @@ use Rattle.std.specs.Prelude.{◌≡◌, ℕ, ◌<◌, Bool, true, List, length}
 use Rattle.std.specs.List.{list_all}
 use Rattle.flow_link.specs.declared.draft.BlockKind.TheVariants as kind
 use Rattle.flow_link.specs.Layout.{Layout}
-use Rattle.flow_lists.specs.Lists.{is_empty}
+use Rattle.flow_link.specs.Lists.{is_empty}
 use Rattle.flow_intake.specs.Port.{PortState}
 use Rattle.flow_outlet.specs.declared.ends.LinkRule.{LinkRule}
 use Rattle.flow_group.specs.declared.round.RoundStep.TheVariants as steps

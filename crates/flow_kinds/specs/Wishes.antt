@@ -1,6 +1,6 @@
 -- What a join that reserves wishes next, and what it becomes by that.
 use Rattle.std.specs.Prelude.{ℕ, ◌==◌, Bool, true, false, cond, ◌&&◌, List, length, position, Option, Some, None, is_some, unwrap_or}
-use Rattle.flow_lists.specs.Lists.{below}
+use Rattle.flow_link.specs.Lists.{below}
 use Rattle.flow_link.specs.declared.phase.Move.{Move}
 use Rattle.flow_link.specs.declared.phase.Move.TheVariants.{Ask, Claim, Release}
 use Rattle.flow_link.specs.declared.stage.TargetStage.{TargetStage}

@@ -3,7 +3,7 @@
 //! In a network a port that has ended refuses what it postponed, and so the round fails. By hand nobody refuses there. So
 //! where the round would ask for such an offer next, it fails here, and what is kept is given up first.
 ghost use Rattle.std.specs.Prelude.{◌≡◌, ◌<◌, ◌==◌, true, length, position, IfSome, Some};
-ghost use Rattle.flow_lists.specs.Lists.{below};
+ghost use Rattle.flow_link.specs.Lists.{below};
 ghost use Rattle.flow_intake.specs.Port.{is_holding, link_in, stage_at};
 ghost use Rattle.flow_intake.specs.ByLink.{place_of};
 ghost use Rattle.flow_group.specs.Round.{port_in, front_stage};

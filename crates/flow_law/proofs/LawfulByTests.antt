@@ -2,7 +2,7 @@
 use Rattle.std.proofs.Common.{◌≡◌, ℕ, zero, suc, ◌==◌, Bool, true, ◌&&◌, List, [], ◌∷◌, length, get_or, refl, eqb-true}
 use Rattle.std.proofs.lemmas.Bool.{and_parts}
 use Rattle.flow_link.specs.Trace.{Run, block_numbers}
-use Rattle.flow_lists.specs.Lists.{every}
+use Rattle.flow_link.specs.Lists.{every}
 use Rattle.flow_lawful.specs.Shape.{Shape, input_count, tells_each_port}
 use Rattle.flow_law.specs.Tests.{all_pass, is_in_shape, law_tests, quiet_tests}
 use Rattle.flow_lawful.specs.Lawful.{Lawful}

@@ -13,7 +13,7 @@ use Rattle.flow_link.specs.declared.plan.LinkTarget.TheVariants.{Port}
 use Rattle.flow_link.specs.declared.trace.Mark.{Mark}
 use Rattle.flow_link.specs.declared.trace.Mark.TheVariants.{Took, Gave, Complete, Done}
 use Rattle.flow_link.specs.declared.trace.Ending.TheVariants.{Open, Complete as ending_complete, Fault as ending_fault}
-use Rattle.flow_lists.specs.Lists.{below, numbers_from}
+use Rattle.flow_link.specs.Lists.{below, numbers_from}
 use Rattle.flow_link.specs.Plan.{no_block}
 use Rattle.flow_link.specs.Trace.{BlockTrace, InputTrace, Run}
 

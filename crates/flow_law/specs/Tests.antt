@@ -1,6 +1,6 @@
 -- The laws of a run, one test after another: a run whose tests all pass is lawful, or quiet.
 use Rattle.std.specs.Prelude.{◌==◌, Bool, ◌&&◌, List, [], ◌∷◌, length}
-use Rattle.flow_lists.specs.Lists.{every}
+use Rattle.flow_link.specs.Lists.{every}
 use Rattle.flow_link.specs.Trace.{Run, block_numbers, link_numbers}
 use Rattle.flow_lawful.specs.Shape.{input_count, tells_each_port}
 use Rattle.flow_link.specs.Making.{makes}

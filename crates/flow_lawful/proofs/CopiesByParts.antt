@@ -7,13 +7,13 @@ use Rattle.flow_link.specs.declared.draft.BlockKind.{BlockKind}
 use Rattle.flow_link.specs.declared.draft.BlockKind.TheVariants.{Buffer, Broadcast, WriteOnce, Action, Transform, TransformMany, Batch, Join, BatchedJoin}
 use Rattle.flow_link.specs.declared.trace.Mark.{Mark}
 use Rattle.flow_link.specs.declared.trace.Mark.TheVariants.{Took, Gave, Complete, Fault, Done}
-use Rattle.flow_lists.specs.Lists.{every, is_empty, below, is_front, is_subsequence, same_values, without_last}
+use Rattle.flow_link.specs.Lists.{every, is_empty, below, is_front, is_subsequence, same_values, without_last}
 use Rattle.flow_link.specs.Plan.{begins_at, is_steady, is_sole, is_one_taker}
 use Rattle.flow_link.specs.Trace.{Run, took, gave_over, is_used_up, block_of, link_of, link_numbers, marks_of, held_at, left_at, given_over, is_refused}
 use Rattle.flow_lawful.specs.Law.{LinkOrder, is_own_mark, is_passed, gives_in_order, keeps_link_order}
 use Rattle.flow_link.specs.Copies.{Copies, copies, copies_as, elements, newest_left, owes, carries_all, carries_first, carried_of, broadcasts_over, is_served, gives_it_once}
 use Rattle.flow_lawful.specs.Composes.{Ends, PartsKeep, as_seen, is_refused_phase}
-use Rattle.flow_lists.proofs.ListTests.{every_below, every_weaker_below, or_weaker, and_weaker}
+use Rattle.flow_link.proofs.ListTests.{every_below, every_weaker_below, or_weaker, and_weaker}
 use Rattle.flow_lawful.proofs.EndingsByParts.{refusal, refused_stage}
 
 module _ {W : Type 0} (run : Run W) (ends : ℕ → Ends) (keep : PartsKeep run ends) where

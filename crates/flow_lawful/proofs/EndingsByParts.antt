@@ -15,7 +15,7 @@ use Rattle.flow_link.specs.declared.trace.Mark.TheVariants.{Took, Gave, Complete
 use Rattle.flow_link.specs.Views.{SourceStage, TargetStage, Refusal, crossed}
 use Rattle.flow_link.specs.LinkOk.{HasRoom, PassesOn}
 use Rattle.flow_link.specs.Told.{HasEnded, RefusalStays}
-use Rattle.flow_lists.specs.Lists.{some, is_empty}
+use Rattle.flow_link.specs.Lists.{some, is_empty}
 use Rattle.flow_link.specs.Plan.{is_write_once, ends_at, ends_at_port}
 use Rattle.flow_link.specs.Trace.{Run, took_at, is_done, has_fault, has_ended, is_used_up, block_of, link_of, link_numbers, ports_of, marks_of, given_over, taken_over, input_of, waits_over, is_cut, is_refused}
 use Rattle.flow_link.specs.Making.{load}
@@ -23,7 +23,7 @@ use Rattle.flow_lawful.specs.Law.{Counts, has_room_for, is_within_capacity, take
 use Rattle.flow_lawful.specs.Endings.{Endings, own_fault, is_number, is_complete_ending, is_fault_ending, passes_on, brings_from, brings_completion, faults_from, brings_fault, has_cause, has_causes, refuses_rightly, is_rightly_refused, stops_at, completes_once_at, ends_rightly}
 use Rattle.flow_lawful.specs.Composes.{Ends, PartsKeep, facts_of, is_refused_phase, is_refused_stage, has_seen_completion, has_seen_fault, coming, has_room_at, has_seen_cause}
 use Rattle.flow_link.proofs.LinksTell.{links_tell}
-use Rattle.flow_lists.proofs.ListTests.{or_not, every_below, every_weaker, or_weaker, some_weaker_below, drop_all}
+use Rattle.flow_link.proofs.ListTests.{or_not, every_below, every_weaker, or_weaker, some_weaker_below, drop_all}
 use Rattle.flow_lawful.proofs.LinksByParts.{source_keeps, target_keeps, given_is, taken_is}
 
 completion_stage : (stage : TargetStage Value) → has_seen_completion stage ≡ true → stage ≡ TargetStage.ended end_complete

@@ -9,7 +9,7 @@ use Rattle.flow_link.specs.declared.plan.LinkSource.{LinkSource}
 use Rattle.flow_link.specs.declared.plan.LinkSource.TheVariants.{Block, Input}
 use Rattle.flow_link.specs.declared.plan.LinkTarget.{LinkTarget}
 use Rattle.flow_link.specs.declared.plan.LinkTarget.TheVariants.{Port, Exit}
-use Rattle.flow_lists.specs.Lists.{some, numbers_from, below}
+use Rattle.flow_link.specs.Lists.{some, numbers_from, below}
 use Rattle.flow_link.specs.LinkOk.{CrossedAt}
 use Rattle.flow_link.specs.LooksKeep.{SeenAt}
 use Rattle.flow_link.specs.Plan.{begins_at, ends_at}
@@ -18,7 +18,7 @@ use Rattle.flow_link.specs.Views.{SourceStage, TargetStage, Refusal}
 use Rattle.flow_lawful.specs.Composes.{Ends, PartsKeep, facts_of}
 use Rattle.flow_lawful.specs.RestsByParts.{LinksRest, EndsAreStill, LinkSeen, has_offer_out, asks_somewhere, is_at_rest, is_over, is_to_hand_over, is_wished_for, is_out, is_postponed, is_asking, is_holding, is_to_receive, has_seen_end}
 use Rattle.flow_link.proofs.LooksKeepOrder.{looks_keep}
-use Rattle.flow_lists.proofs.ListTests.{never_both}
+use Rattle.flow_link.proofs.ListTests.{never_both}
 
 nowhere_from : (test : ℕ → Bool) (first count : ℕ) → ((k : ℕ) → k < first + count → test k ≡ true → ⊥)
     → some test (numbers_from first count) ≡ false

@@ -12,13 +12,13 @@ use Rattle.flow_link.specs.declared.plan.LinkTarget.{LinkTarget}
 use Rattle.flow_link.specs.declared.plan.LinkTarget.TheVariants.{Port, Exit}
 use Rattle.flow_link.specs.LinkOk.{IsWithin}
 use Rattle.flow_link.specs.Told.{IsTakenOrUnderWay}
-use Rattle.flow_lists.specs.Lists.{every, is_empty, concat, same_values, is_front}
+use Rattle.flow_link.specs.Lists.{every, is_empty, concat, same_values, is_front}
 use Rattle.flow_link.specs.Trace.{Run, took, gave_over, block_of, link_of, trace_of, marks_of, held_at, left_at, given_by, given_over, taken_by, taken_over, input_of}
 use Rattle.flow_link.specs.Making.{Making, makes, makes_as, results_of, block_result, is_made, outputs, worked, work_makes}
 use Rattle.flow_lawful.specs.Law.{LinkLaw, OneTaker, is_all_or_all_but_one, is_within, crosses, crosses_between, gives_admitted, gives_within, posted_before, takes_posted, has_own_marks}
 use Rattle.flow_lawful.specs.Composes.{Ends, SourceKeeps, TargetKeeps, WorksInto, NodeMakes, PartsKeep, facts_of}
 use Rattle.flow_link.proofs.LinksTell.{links_tell}
-use Rattle.flow_lists.proofs.ListTests.{every_below, same_values_where, front_append, front_refl, front_of_front, front_without}
+use Rattle.flow_link.proofs.ListTests.{every_below, same_values_where, front_append, front_refl, front_of_front, front_without}
 
 -- all but one is a front that is shorter by one
 pub all_or_all_but_one : (given taken : List Value) → IsTakenOrUnderWay given taken → is_all_or_all_but_one given taken ≡ true

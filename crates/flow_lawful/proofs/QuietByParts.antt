@@ -12,7 +12,7 @@ use Rattle.flow_link.specs.declared.plan.LinkTarget.TheVariants.{Port, Exit}
 use Rattle.flow_link.specs.declared.trace.Mark.{Mark}
 use Rattle.flow_link.specs.declared.trace.Mark.TheVariants.{Took, Gave, Complete, Fault, Done}
 use Rattle.flow_lawful.specs.Endings.{own_fault, first_fault, fault_by_kind, is_complete, has_nothing, passes_on}
-use Rattle.flow_lists.specs.Lists.{every, some, is_empty, below}
+use Rattle.flow_link.specs.Lists.{every, some, is_empty, below}
 use Rattle.flow_link.specs.LooksKeep.{SeenAt}
 use Rattle.flow_link.specs.Making.{load}
 use Rattle.flow_link.specs.Plan.{has_work, is_reserving, ports_by_kind, ends_at_port}
@@ -25,7 +25,7 @@ use Rattle.flow_lawful.specs.RestsByParts.{RestsCompose, PartsRest, is_over, is_
 use Rattle.flow_link.proofs.LinksTell.{links_tell}
 use Rattle.flow_lawful.proofs.LinksByParts.{source_keeps, target_keeps, given_is, taken_is}
 use Rattle.flow_lawful.proofs.LinksAtRest.{home_at_rest, over_tells, waits_unless, stages_at}
-use Rattle.flow_lists.proofs.ListTests.{or_not, or_weaker, and_weaker, every_below, some_weaker_below, same_values_where, never_both}
+use Rattle.flow_link.proofs.ListTests.{or_not, or_weaker, and_weaker, every_below, some_weaker_below, same_values_where, never_both}
 
 either : {P : Type 0} (a b : Bool) → (a || b) ≡ true → (a ≡ true → P) → (b ≡ true → P) → P
 either true b e first second = first refl

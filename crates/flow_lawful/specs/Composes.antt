@@ -15,7 +15,7 @@ use Rattle.flow_link.specs.declared.trace.Mark.TheVariants.{Complete, Fault}
 use Rattle.flow_link.specs.declared.trace.Ending.TheVariants.{Complete as ending_complete, Fault as ending_fault}
 use Rattle.flow_link.specs.Views.{SourceStage, TargetStage, Refusal, SourceView, TargetView, LinkFacts}
 use Rattle.flow_link.specs.LinkOk.{LinkOk}
-use Rattle.flow_lists.specs.Lists.{every, some, concat, is_empty, is_front}
+use Rattle.flow_link.specs.Lists.{every, some, concat, is_empty, is_front}
 use Rattle.flow_link.specs.Plan.{is_steady, is_sole, is_reserving, is_write_once, is_one_taker, ends_at, ends_at_port}
 use Rattle.flow_link.specs.Trace.{Run, took, took_at, took_over, gave_over, is_done, is_faulted, has_fault, has_ended, block_of, link_of, link_numbers, ports_of, trace_of, marks_of, held_at, left_at, input_of, is_cut}
 use Rattle.flow_link.specs.Making.{results_of, block_result, outputs, makes_as, load}

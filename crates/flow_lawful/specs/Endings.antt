@@ -12,7 +12,7 @@ use Rattle.flow_link.specs.declared.trace.Mark.TheVariants.{Took, Gave, Complete
 use Rattle.flow_link.specs.declared.trace.Ending.{Ending}
 use Rattle.flow_link.specs.declared.trace.Ending.TheVariants.{Complete as ending_complete, Fault as ending_fault}
 use Rattle.flow_link.specs.Plan.{has_work, is_write_once, ends_at_port, ends_at}
-use Rattle.flow_lists.specs.Lists.{every, some, is_empty}
+use Rattle.flow_link.specs.Lists.{every, some, is_empty}
 use Rattle.flow_link.specs.Making.{block_result}
 use Rattle.flow_link.specs.Trace.{Run, took, took_at, has_complete, has_fault, has_ended, is_done, block_of, link_of, marks_of, held_at, left_at, ports_of, input_of, waits_over, is_cut, is_refused, block_numbers, link_numbers}
 

@@ -9,7 +9,7 @@ use Rattle.flow_link.specs.declared.plan.LinkTarget.TheVariants.{Port}
 use Rattle.flow_link.specs.declared.trace.Mark.{Mark}
 use Rattle.flow_link.specs.declared.trace.Mark.TheVariants.{Took, Gave, Complete}
 use Rattle.flow_link.specs.Plan.{is_reserving, is_one_taker, begins_at, ends_at_port, is_steady}
-use Rattle.flow_lists.specs.Lists.{every, below, is_front}
+use Rattle.flow_link.specs.Lists.{every, below, is_front}
 use Rattle.flow_link.specs.Making.{load}
 use Rattle.flow_link.specs.Trace.{Run, took_at, gave_over, is_faulted, is_done, is_used_up, block_of, link_of, marks_of, ports_of, given_over, taken_over, input_of, is_refused, block_numbers, link_numbers}
 

@@ -11,7 +11,7 @@ use Rattle.flow_link.specs.declared.plan.LinkTarget.TheVariants.{Port, Exit}
 use Rattle.flow_link.specs.declared.trace.Ending.{Ending}
 use Rattle.flow_link.specs.declared.trace.Ending.TheVariants.{Open}
 use Rattle.flow_link.specs.Plan.{is_reserving, is_broadcast, ends_at_port}
-use Rattle.flow_lists.specs.Lists.{every, some, is_empty, same_values}
+use Rattle.flow_link.specs.Lists.{every, some, is_empty, same_values}
 use Rattle.flow_link.specs.Making.{load, group_size}
 use Rattle.flow_lawful.specs.Endings.{own_fault, is_complete, has_nothing, passes_on}
 use Rattle.flow_link.specs.Trace.{Run, has_complete, has_fault, has_ended, is_faulted, is_done, block_of, link_of, marks_of, held_at, left_at, ports_of, input_of, waits_over, given_over, taken_over, is_cut, block_numbers, link_numbers}

@@ -10,7 +10,7 @@ use Rattle.flow_link.specs.declared.plan.LinkSource.TheVariants.{Block, Input}
 use Rattle.flow_link.specs.declared.plan.LinkTarget.TheVariants.{Port, Exit}
 use Rattle.flow_link.specs.Views.{SourceStage, TargetStage}
 use Rattle.flow_link.specs.Looks.{Seen}
-use Rattle.flow_lists.specs.Lists.{some, is_empty}
+use Rattle.flow_link.specs.Lists.{some, is_empty}
 use Rattle.flow_link.specs.Plan.{is_reserving, begins_at, ends_at, ends_at_port}
 use Rattle.flow_link.specs.Trace.{Run, has_ended, block_of, link_of, link_numbers, ports_of, marks_of, input_of}
 use Rattle.flow_link.specs.Making.{load}

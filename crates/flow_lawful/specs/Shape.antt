@@ -1,6 +1,6 @@
 -- The shape of a trace: it speaks of each block, port and input of its network, and of no others.
 use Rattle.std.specs.Prelude.{◌≡◌, ℕ, ◌==◌, Bool, true, length, count_by}
-use Rattle.flow_lists.specs.Lists.{every}
+use Rattle.flow_link.specs.Lists.{every}
 use Rattle.flow_link.specs.Plan.{port_count}
 use Rattle.flow_link.specs.Trace.{Run, block_of, trace_of, block_numbers}
 

@@ -6,8 +6,8 @@ use Rattle.flow_link.specs.declared.plan.LinkSource.{LinkSource}
 use Rattle.flow_link.specs.declared.plan.LinkSource.TheVariants.{Block, Input}
 use Rattle.flow_link.specs.declared.plan.LinkTarget.{LinkTarget}
 use Rattle.flow_link.specs.declared.plan.LinkTarget.TheVariants.{Port, Exit}
-use Rattle.flow_lists.specs.Lists.{some, below}
-use Rattle.flow_lists.proofs.ListTests.{never_both}
+use Rattle.flow_link.specs.Lists.{some, below}
+use Rattle.flow_link.proofs.ListTests.{never_both}
 use Rattle.flow_link.specs.Plan.{begins_at, ends_at}
 use Rattle.flow_link.specs.PlanFaults.{leads, walks}
 use Rattle.flow_link.specs.Heights.{climbs, rises}

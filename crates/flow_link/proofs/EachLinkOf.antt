@@ -7,10 +7,10 @@ use Rattle.flow_link.specs.declared.draft.LinkDef.{LinkDef}
 use Rattle.flow_link.specs.declared.plan.Link.{Link}
 use Rattle.flow_link.specs.declared.plan.PlanFault.{PlanFault}
 use Rattle.flow_link.specs.Layout.{input_link, input_links, exit_link, exit_links}
-use Rattle.flow_lists.specs.Lists.{below}
+use Rattle.flow_link.specs.Lists.{below}
 use Rattle.flow_link.specs.Plan.{block_in, link_in, named_link, named_links}
 use Rattle.flow_link.proofs.FirstOfEachFault.{named_link_at, length-named_links, find_of_images, fails_from, none_image}
-use Rattle.flow_lists.proofs.ListTests.{never_both}
+use Rattle.flow_link.proofs.ListTests.{never_both}
 
 -- what holds of each link of a list
 abbrev pub Each : (Link → Type 0) → List Link → Type 0

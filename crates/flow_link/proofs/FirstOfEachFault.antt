@@ -10,13 +10,13 @@ use Rattle.flow_link.specs.declared.plan.Link.{Link}
 use Rattle.flow_link.specs.declared.plan.PlanFault.{PlanFault}
 use Rattle.flow_link.specs.declared.plan.PlanFault.TheVariants.{Limit, DuplicateName, UnknownBlock, Port, NoOutput, BadOption, CapacityBelowSize, SharedSource, Cycle}
 use Rattle.flow_link.specs.declared.plan.Place.TheVariants.{Block, Link as at_link}
-use Rattle.flow_lists.specs.Lists.{numbers_from, below}
+use Rattle.flow_link.specs.Lists.{numbers_from, below}
 use Rattle.flow_link.specs.Plan.{block_named, block_in, link_in, named_link, named_links, planned_links}
 use Rattle.flow_link.specs.PlanFaults.{lacks_port, lacks_output, is_in, holds_no_group, shares_among, stands, first_plan_fault}
 use Rattle.flow_link.specs.FaultOrder.{first_at, name_faults, end_faults, option_faults, is_bad_block, shared_first, fault_of_ways}
 use Rattle.flow_link.specs.Layout.{IsLaidOut}
 use Rattle.flow_link.proofs.LinksLaidOut.{laid_out_of}
-use Rattle.flow_lists.proofs.FirstInOrder.{position_is_first}
+use Rattle.flow_link.proofs.FirstInOrder.{position_is_first}
 
 module _ {W : Type 0} (blocks : List (BlockDef W)) where
   pub named_link_at : (links : List LinkDef) (l : ℕ) (d : LinkDef) → l < length links

@@ -6,7 +6,7 @@ use Rattle.flow_link.specs.declared.draft.BlockKind.TheVariants.{Buffer, Broadca
 use Rattle.flow_link.specs.declared.kinds.BlockUnit.{BlockUnit}
 use Rattle.flow_link.specs.declared.kinds.BlockUnit.TheVariants.{Message, Row, Tuple, Group, Copy, OneCopy}
 use Rattle.flow_link.specs.Kinds.{unit_of, has_work, makes_rows, makes_tuples, makes_groups, copies_each, copies_one, all_kinds, comes_out, leads_to}
-use Rattle.flow_lists.specs.Lists.{every}
+use Rattle.flow_link.specs.Lists.{every}
 
 comes : (one found : Bool) → found ≡ one → comes_out one found ≡ true
 comes true found e = e

@@ -10,7 +10,7 @@ use Rattle.flow_link.specs.declared.plan.LinkTarget.{LinkTarget}
 use Rattle.flow_link.specs.declared.plan.LinkTarget.TheVariants.{Port, Exit}
 use Rattle.flow_link.specs.Layout.{IsLaidOut, input_link, input_links, exit_link, exit_links, outer_links, joins, is_between_blocks, between_of}
 use Rattle.flow_link.specs.LeadsWell.{LinksLead}
-use Rattle.flow_lists.specs.Lists.{every}
+use Rattle.flow_link.specs.Lists.{every}
 use Rattle.flow_link.specs.Plan.{block_in, link_in}
 use Rattle.flow_link.proofs.EachLinkOf.{Each, each_cons, each_append, each_input, each_exit}
 

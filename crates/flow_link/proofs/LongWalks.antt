@@ -2,9 +2,9 @@
 -- blocks reach the end, until a round adds none, and then no later one does.
 use Rattle.std.proofs.Common.{◌≡◌, ℕ, zero, suc, ◌+◌, ◌-◌, ◌<◌, ◌≤◌, Bool, true, false, cond, not, ◌&&◌, ◌||◌, List, [], ◌∷◌, length, ◌⊎◌, inl, inr, refl, ap, sym, ◌∙◌, subst, arith}
 use Rattle.flow_link.specs.declared.plan.Link.{Link}
-use Rattle.flow_lists.specs.Lists.{every, some, below}
+use Rattle.flow_link.specs.Lists.{every, some, below}
 use Rattle.flow_link.specs.PlanFaults.{leads, walks}
-use Rattle.flow_lists.proofs.ListTests.{length_numbers, or_weaker, and_weaker, some_weaker_below, never_both, passes_from, at_most_one, counts_no_less}
+use Rattle.flow_link.proofs.ListTests.{length_numbers, or_weaker, and_weaker, some_weaker_below, never_both, passes_from, at_most_one, counts_no_less}
 use Rattle.flow_link.proofs.RoundsOfWalks.{some_same_below}
 
 abbrev alike : Bool → Bool → Bool

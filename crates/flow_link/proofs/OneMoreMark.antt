@@ -5,7 +5,7 @@ use Rattle.flow_value.specs.declared.value.Value.{Value}
 use Rattle.flow_link.specs.declared.trace.Mark.{Mark}
 use Rattle.flow_link.specs.declared.trace.Mark.TheVariants.{Took, Gave}
 use Rattle.flow_link.specs.JournalGrows.{taken_by_mark, given_by_mark}
-use Rattle.flow_lists.specs.Lists.{every, some}
+use Rattle.flow_link.specs.Lists.{every, some}
 use Rattle.flow_link.specs.Trace.{took, gave}
 use Rattle.flow_link.proofs.JournalsGrow.{took_more, gave_more}
 

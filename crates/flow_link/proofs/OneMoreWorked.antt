@@ -1,7 +1,7 @@
 -- One more message is worked on.
 use Rattle.std.proofs.Common.{◌≡◌, ℕ, List, [], ◌∷◌, ◌++◌, Option, Some, None, Result, Ok, Err, refl, ap, sym, ◌∙◌, append-nil, append_assoc}
 use Rattle.flow_value.specs.declared.value.Value.{Value}
-use Rattle.flow_lists.specs.Lists.{concat}
+use Rattle.flow_link.specs.Lists.{concat}
 use Rattle.flow_link.specs.Making.{results_of, with_result}
 use Rattle.flow_link.specs.Worked.{WorkedInto}
 

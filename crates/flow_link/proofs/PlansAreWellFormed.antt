@@ -18,17 +18,17 @@ use Rattle.flow_link.specs.declared.plan.LinkTarget.TheVariants.{Port as at_port
 use Rattle.flow_link.specs.declared.plan.PlanFault.TheVariants.{Limit, DuplicateName, UnknownBlock, Port, NoOutput, BadOption, CapacityBelowSize, SharedSource, Cycle}
 use Rattle.flow_link.specs.declared.plan.Place.TheVariants.{Block, Link as at_link}
 use Rattle.flow_link.specs.Layout.{input_link, input_links, exit_link, exit_links, outer_links, between_of}
-use Rattle.flow_lists.specs.Lists.{some, below}
+use Rattle.flow_link.specs.Lists.{some, below}
 use Rattle.flow_link.specs.Plan.{block_named, block_in, link_in, begins_at, ends_at, ends_at_port, named_link, named_links, planned_links, no_link, ports_by_kind, port_count, is_reserving, no_block}
 use Rattle.flow_link.specs.PlanFaults.{allows, input_rule, output_rule, capacity_rule, work_rule, lanes_rule, size_rule, ports_rule, greedy_rule, keys_fit, ranges_fit, is_name, options_fit, lacks_port, lacks_output, is_in, holds_no_group, gives_nothing, leads, walks, shares_with, sources, targets, stands, first_plan_fault}
 use Rattle.flow_link.specs.WellFormed.{IsWellFormed}
-use Rattle.flow_lists.proofs.FirstInOrder.{position_is_first}
+use Rattle.flow_link.proofs.FirstInOrder.{position_is_first}
 use Rattle.flow_link.proofs.EachLinkOf.{Each, Fails, each_append, each_input, each_exit, each_named, in_front, none_at}
 use Rattle.flow_link.proofs.FirstOfEachFault.{named_link_at, length-named_links, none_front, none_back, fails_from}
 use Rattle.flow_link.proofs.LinksLaidOut.{between_named, named_low}
 use Rattle.flow_link.proofs.LongWalks.{never_reached}
 use Rattle.flow_link.proofs.RoundsOfWalks.{some_here_below, some_same_below}
-use Rattle.flow_lists.proofs.ListTests.{never_both, not_both}
+use Rattle.flow_link.proofs.ListTests.{never_both, not_both}
 
 -- of tests that fail
 

@@ -16,7 +16,7 @@ use Rattle.flow_link.specs.Plan.{block_in, block_named, ports_by_kind, port_coun
 use Rattle.flow_link.specs.PlanFaults.{is_name, is_in, keys_fit, ranges_fit, options_fit, stands, first_plan_fault}
 use Rattle.flow_link.specs.PortsFit.{PortsFit}
 use Rattle.flow_link.specs.WellFormed.{IsWellFormed}
-use Rattle.flow_lists.specs.Lists.{below}
+use Rattle.flow_link.specs.Lists.{below}
 use Rattle.flow_link.proofs.EachLinkOf.{none_at}
 use Rattle.flow_link.proofs.FirstOfEachFault.{first_fault_of, none_front, none_back, none_behind}
 use Rattle.flow_link.proofs.PlansAreWellFormed.{front_of, back_of, target_there, port_has}

@@ -6,11 +6,11 @@ use Rattle.std.proofs.Math.ListN.{get_or-eq_default}
 use Rattle.flow_link.specs.declared.plan.Link.{Link}
 use Rattle.flow_link.specs.declared.plan.LinkTarget.{LinkTarget}
 use Rattle.flow_link.specs.declared.plan.LinkTarget.TheVariants.{Port, Exit}
-use Rattle.flow_lists.specs.Lists.{some, numbers_from, below}
+use Rattle.flow_link.specs.Lists.{some, numbers_from, below}
 use Rattle.flow_link.specs.Plan.{begins_at, ends_at}
 use Rattle.flow_link.specs.PlanFaults.{leads, walks}
 use Rattle.flow_link.specs.Rounds.{goes_on, sets_out, IsRound}
-use Rattle.flow_lists.proofs.FirstInOrder.{any_is_some}
+use Rattle.flow_link.proofs.FirstInOrder.{any_is_some}
 
 -- one more element
 pub some_more : {A : Type 0} (test : A → Bool) (xs : List A) (i : ℕ) (d : A) → i < length xs

@@ -6,7 +6,7 @@ use Rattle.flow_link.specs.declared.draft.BlockKind.{BlockKind}
 use Rattle.flow_link.specs.declared.draft.BlockKind.TheVariants.{Buffer, Broadcast, WriteOnce, Action, Transform, TransformMany, Batch, Join, BatchedJoin}
 use Rattle.flow_link.specs.declared.plan.Link.{Link}
 use Rattle.flow_link.specs.Plan.{begins_at, is_steady, is_sole}
-use Rattle.flow_lists.specs.Lists.{every, is_empty, without_last, same_values, is_front, is_subsequence}
+use Rattle.flow_link.specs.Lists.{every, is_empty, without_last, same_values, is_front, is_subsequence}
 use Rattle.flow_link.specs.Making.{worked}
 use Rattle.flow_link.specs.Trace.{Run, took, block_of, link_of, marks_of, held_at, left_at, given_over, is_refused, block_numbers, link_numbers}
 

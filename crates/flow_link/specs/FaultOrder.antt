@@ -6,7 +6,7 @@ use Rattle.flow_link.specs.declared.plan.Place.TheVariants.{Block, Link as at_li
 use Rattle.flow_link.specs.declared.plan.PlanFault.{PlanFault}
 use Rattle.flow_link.specs.declared.plan.PlanFault.TheVariants.{Limit, DuplicateName, UnknownBlock, Port, NoOutput, BadOption, SharedSource, Cycle}
 use Rattle.flow_link.specs.declared.plan.Link.{Link}
-use Rattle.flow_lists.specs.Lists.{some, below}
+use Rattle.flow_link.specs.Lists.{some, below}
 use Rattle.flow_link.specs.PlanFaults.{stands, options_fit, shares_among, walks}
 
 -- the block has a name or an option that its kind does not have

@@ -10,6 +10,7 @@ pub mod Kinds
 pub mod Layout
 pub mod LeadsWell
 pub mod LinkOk
+pub mod Lists
 pub mod Looks
 pub mod LooksKeep
 pub mod Making

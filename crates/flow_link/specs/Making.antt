@@ -7,7 +7,7 @@ use Rattle.flow_link.specs.declared.draft.BlockKind.{BlockKind}
 use Rattle.flow_link.specs.declared.draft.BlockKind.TheVariants.{Buffer, Broadcast, WriteOnce, Action, Transform, TransformMany, Batch, Join, BatchedJoin}
 use Rattle.flow_link.specs.declared.trace.Mark.{Mark}
 use Rattle.flow_link.specs.declared.trace.Mark.TheVariants.{Took, Gave, Complete, Fault, Done}
-use Rattle.flow_lists.specs.Lists.{every, is_empty, concat, same_values}
+use Rattle.flow_link.specs.Lists.{every, is_empty, concat, same_values}
 use Rattle.flow_link.specs.Trace.{Run, took, took_at, gave, has_complete, block_of, trace_of, marks_of, held_at, left_at, ports_of, block_numbers, partly_left}
 
 -- the fault of a transform whose work gives another number of values than one

@@ -14,7 +14,7 @@ use Rattle.flow_link.specs.declared.plan.PlanFault.{PlanFault}
 use Rattle.flow_link.specs.declared.plan.PlanFault.TheVariants.{Limit, DuplicateName, UnknownBlock, Port, NoOutput, BadOption, CapacityBelowSize, SharedSource, Cycle}
 pub use Rattle.flow_link.specs.Kinds.{allows, gives_nothing}
 use Rattle.flow_link.specs.Kinds.{unit_of, options_of, most_messages, most_lanes, largest_group, fewest_ports, most_ports}
-use Rattle.flow_lists.specs.Lists.{every, some, below}
+use Rattle.flow_link.specs.Lists.{every, some, below}
 use Rattle.flow_link.specs.Plan.{port_count, is_reserving, block_in, link_in, begins_at, ends_at, ends_at_port, block_named, named_links}
 
 abbrev pub is_between : ℕ → ℕ → ℕ → Bool

@@ -3,7 +3,7 @@ use Rattle.std.specs.Prelude.{◌≡◌, ℕ, ◌==◌, ◌<◌, Bool, false, �
 use Rattle.flow_link.specs.declared.plan.Link.{Link}
 use Rattle.flow_link.specs.declared.plan.LinkTarget.{LinkTarget}
 use Rattle.flow_link.specs.declared.plan.LinkTarget.TheVariants.{Port, Exit}
-use Rattle.flow_lists.specs.Lists.{some}
+use Rattle.flow_link.specs.Lists.{some}
 use Rattle.flow_link.specs.Plan.{begins_at}
 use Rattle.flow_link.specs.PlanFaults.{walks}
 

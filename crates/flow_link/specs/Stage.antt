@@ -1,6 +1,6 @@
 -- The stages of a link's two ends, as the program keeps them and as the model names them. What the target has in hand
 -- stands beside its stage, and the model joins them.
-use Rattle.std.specs.Prelude.{◌≡◌, Bool, Option, None, pos, unwrap_or}
+use Rattle.std.specs.Prelude.{◌≡◌, Bool, true, false, Option, None, pos, unwrap_or}
 use Rattle.flow_value.specs.declared.value.Value.{Value}
 use Rattle.flow_value.specs.declared.value.Value.TheVariants.{Int}
 use Rattle.flow_link.specs.Views as views
@@ -49,6 +49,25 @@ target_stage_of (target.Arrived i) _ = views.TargetStage.arrived i
 target_stage_of (target.Hand i) parcel = views.TargetStage.hand i (in_hand parcel)
 target_stage_of (target.Refused why) _ = views.TargetStage.refused (refusal_of why)
 target_stage_of (target.Ended how) _ = views.TargetStage.ended how
+
+-- nothing is under way at a source's end, though an offer may wait there
+abbrev pub rests_out : SourceStage → Bool
+rests_out source.Free = true
+rests_out (source.Waiting _) = true
+rests_out source.Refused = true
+rests_out (source.Ended _) = true
+rests_out _ = false
+
+-- the message is kept for the target
+abbrev pub is_kept : SourceStage → Bool
+is_kept (source.Reserved _) = true
+is_kept (source.Claimed _) = true
+is_kept _ = false
+
+-- the target asks to reserve the message
+abbrev pub is_asked : SourceStage → Bool
+is_asked (source.AskedBy _) = true
+is_asked _ = false
 
 -- the stage that the program keeps where the model has this one. It never keeps that the slot is out
 abbrev pub source_kept : views.SourceStage → SourceStage

@@ -13,7 +13,7 @@ use Rattle.flow_link.specs.declared.trace.Ending.{Ending}
 use Rattle.flow_link.specs.declared.trace.Ending.TheVariants.{Open}
 use Rattle.flow_link.specs.Layout.{Layout}
 use Rattle.flow_link.specs.Plan.{block_in, link_in, port_count}
-use Rattle.flow_lists.specs.Lists.{below, some}
+use Rattle.flow_link.specs.Lists.{below, some}
 
 -- what one block leaves
 pub record BlockTrace : Type 0 where

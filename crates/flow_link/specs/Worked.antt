@@ -1,7 +1,7 @@
 -- What a block with a function makes of the messages that it took: the results of those that it worked on, in order.
 use Rattle.std.specs.Prelude.{◌≡◌, ℕ, List, ◌++◌, Some, Result}
 use Rattle.flow_value.specs.declared.value.Value.{Value}
-use Rattle.flow_lists.specs.Lists.{concat}
+use Rattle.flow_link.specs.Lists.{concat}
 use Rattle.flow_link.specs.Making.{results_of}
 
 -- what was taken is worked on, or held; what was made are the results of the worked, in order

@@ -8,7 +8,7 @@ ghost use Rattle.flow_link.specs.Refusal.{IsWhy};
 ghost use Rattle.flow_link.specs.PlanFaults.{holds_no_group, lacks_port, lacks_output, is_in, stands, first_plan_fault};
 ghost use Rattle.flow_link.specs.PlanFaults.{shares_with, enters_another, leads_beside, leads_twice, shares_among};
 ghost use Rattle.std.specs.List.{list_any};
-ghost use Rattle.flow_lists.specs.Lists.{some, below};
+ghost use Rattle.flow_link.specs.Lists.{some, below};
 ghost use Rattle.flow_link.specs.FaultOrder.{first_at, name_faults, end_faults, option_faults, is_bad_block, fault_of_ways};
 
 use crate::cycle::has_cycle;
@@ -136,7 +136,7 @@ fn leads_beside(links: &[Link], source: usize, block: usize, link: &Link) -> boo
     begins_at(source, link.source) && shares_with(links, source, block, link.target)
 }
 
-#[tactic(auto, using(flow_lists::proofs::FirstInOrder::any_is_some))]
+#[tactic(auto, using(crate::proofs::FirstInOrder::any_is_some))]
 fn shares_with(links: &[Link], source: usize, block: usize, target: LinkTarget) -> bool
     ensures { result ≡ shares_with source block target links.now }
 {

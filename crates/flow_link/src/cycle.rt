@@ -4,7 +4,7 @@
 //! blocks a walk leads to it. Each round allows walks of one link more, and after as many rounds as there are blocks no longer
 //! walk is of interest.
 ghost use Rattle.std.specs.Prelude.{◌≡◌, ◌<◌, ◌≤◌, ◌↔◌, ◌&&◌, ◌||◌, true, false, length, slice_index_or, EachIndex};
-ghost use Rattle.flow_lists.specs.Lists.{some, below};
+ghost use Rattle.flow_link.specs.Lists.{some, below};
 ghost use Rattle.flow_link.specs.Plan.{begins_at};
 ghost use Rattle.flow_link.specs.PlanFaults.{walks};
 ghost use Rattle.flow_link.specs.Rounds.{goes_on, sets_out};

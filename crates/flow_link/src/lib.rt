@@ -7,7 +7,7 @@
 //!
 //! What a run leaves behind is a journal of marks for each block. Which runs are lawful and which are quiet are
 //! definitions of `flow_lawful`; `flow_law` states the laws, and shows by examples what the definitions let through and
-//! what they refuse.
+//! what they refuse. Tests on lists, by which all of this is said, stand in specs/Lists.antt.
 //!
 //! Proved: the table of moves of a link and its words; what kinds, options and plans tell; `plan_check` answers a
 //! plan only where no rule of the format is broken, else the first fault in its order, and the draft comes back

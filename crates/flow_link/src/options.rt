@@ -48,7 +48,7 @@ fn is_less(capacity: Option<u32>, size: Option<u32>) -> bool
     }
 }
 
-#[tactic(auto, using(flow_lists::proofs::FirstInOrder::all_is_every))]
+#[tactic(auto, using(crate::proofs::FirstInOrder::all_is_every))]
 fn is_name(name: &str) -> bool
     ensures { result ≡ is_name name.now }
 {

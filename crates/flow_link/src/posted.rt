@@ -2,7 +2,7 @@
 ghost use Rattle.std.specs.Prelude.{◌≡◌, map};
 ghost use Rattle.std.specs.List.{list_all};
 ghost use Rattle.flow_link.specs.Posted.{input_of, is_numbered_ending, ends_by_number};
-ghost use Rattle.flow_lists.specs.Lists.{every};
+ghost use Rattle.flow_link.specs.Lists.{every};
 
 use crate::trace::Ending;
 use flow_value::Value;

@@ -12,7 +12,7 @@ use Rattle.flow_link.specs.declared.stage.SourceStage.TheVariants as source
 use Rattle.flow_link.specs.declared.stage.TargetStage.{TargetStage}
 use Rattle.flow_link.specs.declared.stage.TargetStage.TheVariants as target
 use Rattle.flow_link.specs.declared.trace.Outcome.{Outcome}
-use Rattle.flow_lists.specs.Lists.{is_empty}
+use Rattle.flow_link.specs.Lists.{is_empty}
 use Rattle.flow_link.specs.Stage.{source_stage_of, target_stage_of, source_looks, target_looks}
 use Rattle.flow_link.specs.Views.{SourceStage as SourceSeen, TargetStage as TargetSeen}
 use Rattle.flow_intake.specs.Port.{EndState, PortState, fresh_end, end_in, stage_at, is_hand, is_coming, coming, is_below, has_room}

@@ -25,7 +25,7 @@ use Rattle.flow_block.proofs.RoomBack.{length_back, port_back}
 use Rattle.flow_core.specs.Events.{out_call, copy_call, source_call, in_call, with_line}
 use Rattle.flow_link.specs.declared.trace.LinkState.{LinkState}
 use Rattle.flow_core.specs.State.{NetState, node_at, no_node}
-use Rattle.flow_lists.proofs.PlacesTell.{element_set}
+use Rattle.flow_link.proofs.PlacesTell.{element_set}
 use Rattle.flow_moves.specs.Calls.{called}
 use Rattle.flow_moves.specs.Ready.{SourceIsThere, TargetIsThere, exit_count}
 use Rattle.flow_moves.specs.Ways.{source_moved, target_moved, target_looked}

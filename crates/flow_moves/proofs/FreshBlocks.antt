@@ -2,7 +2,7 @@
 use Rattle.std.proofs.Common.{◌≡◌, ℕ, true, List, [], ◌∷◌, map, refl, ap, ◌∙◌, arith}
 use Rattle.flow_link.specs.declared.draft.BlockKind.{BlockKind}
 use Rattle.flow_link.specs.Layout.{Layout}
-use Rattle.flow_lists.specs.Lists.{every}
+use Rattle.flow_link.specs.Lists.{every}
 use Rattle.flow_intake.specs.Port.{PortState, count_at, is_owed, fresh_end}
 use Rattle.flow_outlet.specs.Outlet.{is_empty}
 use Rattle.flow_outlet.specs.declared.ends.LinkRule.{LinkRule}

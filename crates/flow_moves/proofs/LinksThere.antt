@@ -14,7 +14,7 @@ use Rattle.flow_block.specs.Planned.{out_place, input_place, leads_out}
 use Rattle.flow_core.specs.State.{NetState, node_at}
 use Rattle.flow_core.proofs.KeptIsLawful.{kept_in_order}
 use Rattle.flow_core.proofs.PlacesOfLinks.{exit_there, copy_there, entry_there, port_there, leads_there}
-use Rattle.flow_lists.proofs.PlacesTell.{count_within, place_rises}
+use Rattle.flow_link.proofs.PlacesTell.{count_within, place_rises}
 use Rattle.flow_moves.specs.Ready.{IsThere, SourceIsThere, TargetIsThere, exit_count}
 use Rattle.flow_moves.specs.Statements.{LinksAreThere}
 use Rattle.flow_block.specs.Routes.{source_place, target_place, route_of}

@@ -1,7 +1,10 @@
+pub mod Agendas
+pub mod Apart
+pub mod AtOnce
 pub mod Calls
 pub mod Passed
 pub mod Passes
 pub mod Ready
+pub mod Sights
 pub mod Statements
 pub mod Ways
-pub mod AtOnce

@@ -1,6 +1,6 @@
 //! The blocks, exits and links of a plan in which nothing has happened.
 ghost use Rattle.std.specs.Prelude.{◌≡◌, ◌<◌, true, length, map, replicate, IfOk};
-ghost use Rattle.flow_lists.specs.Lists.{below};
+ghost use Rattle.flow_link.specs.Lists.{below};
 ghost use Rattle.flow_link.specs.Plan.{block_in};
 ghost use Rattle.flow_link.specs.Planned.{layout_of};
 ghost use Rattle.flow_block.specs.Planned.{fresh_node, links_out};

@@ -20,8 +20,8 @@ use Rattle.flow_link.specs.Layout.{Layout}
 use Rattle.flow_link.specs.Plan.{link_in, no_block}
 use Rattle.flow_link.specs.Planned.{layout_of}
 use Rattle.flow_link.specs.Trace.{marks_of, took_over}
-use Rattle.flow_lists.specs.Lists.{is_front}
-use Rattle.flow_lists.proofs.PlacesTell.{count_within}
+use Rattle.flow_link.specs.Lists.{is_front}
+use Rattle.flow_link.proofs.PlacesTell.{count_within}
 use Rattle.flow_intake.specs.Calls.{first_of}
 use Rattle.flow_poll.specs.Sends.{Begins, SendView}
 use Rattle.flow_block.specs.declared.planned.Route.{Route}
@@ -43,7 +43,7 @@ use Rattle.flow_moves.proofs.PostsGoAlong.{input_place_is, posts_go_along}
 use Rattle.flow_moves.specs.Ready.{IsThere, SourceIsThere}
 use Rattle.flow_moves.specs.Ways.{posted_along, with_input_in}
 use Rattle.flow_net.specs.Happened.{Happened}
-use Rattle.flow_apart.specs.Sights.{comes_from, is_entry_of}
+use Rattle.flow_moves.specs.Sights.{comes_from, is_entry_of}
 use Rattle.flow_net.proofs.KeptOn.{kept_on}
 
 pub from_so : {b : ℕ} (source : LinkSource) → comes_from b source ≡ true → source ≡ Input b

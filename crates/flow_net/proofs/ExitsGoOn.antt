@@ -34,12 +34,12 @@ use Rattle.flow_core.proofs.ExitsEnded.{ended_exits_stay}
 use Rattle.flow_core.proofs.NetworksInOrder.{all_exit_calls_keep, all_received_was_given}
 use Rattle.flow_core.proofs.PlacesOfLinks.{leads_there}
 use Rattle.flow_net.proofs.NoneAsked.{callers_on}
-use Rattle.flow_lists.proofs.PlacesTell.{place_rises}
+use Rattle.flow_link.proofs.PlacesTell.{place_rises}
 use Rattle.flow_exec.specs.Works.{works_of}
 use Rattle.flow_moves.proofs.PlansRun.{plan_runs}
 use Rattle.flow_moves.specs.Ways.{with_exit_in}
 use Rattle.flow_net.specs.Happened.{Happened}
-use Rattle.flow_apart.specs.Sights.{is_exit_of}
+use Rattle.flow_moves.specs.Sights.{is_exit_of}
 use Rattle.flow_net.proofs.KeptOn.{kept_on}
 
 received_prop : (received given : List Value) → IsProp (IsReceivedOf received given)

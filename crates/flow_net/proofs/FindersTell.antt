@@ -15,8 +15,8 @@ use Rattle.flow_link.specs.Layout.{Layout}
 use Rattle.flow_link.specs.Plan.{block_in}
 use Rattle.flow_link.specs.Planned.{layout_of}
 use Rattle.flow_link.proofs.PortsAreFew.{at_most_three}
-use Rattle.flow_lists.specs.Lists.{below}
-use Rattle.flow_lists.proofs.ListTests.{length_numbers}
+use Rattle.flow_link.specs.Lists.{below}
+use Rattle.flow_link.proofs.ListTests.{length_numbers}
 use Rattle.flow_block.specs.declared.planned.Route.{Route}
 use Rattle.flow_block.specs.Routes.{route_of}
 use Rattle.flow_block.proofs.PlanMade.{mapped_at}

@@ -14,7 +14,7 @@ use Rattle.flow_link.specs.declared.trace.Outcome.{Outcome}
 use Rattle.flow_link.specs.declared.trace.Outcome.TheVariants as outcome
 use Rattle.flow_lawful.specs.Endings.{stops, is_complete as is_run_complete}
 use Rattle.flow_link.specs.Layout.{Layout}
-use Rattle.flow_lists.specs.Lists.{is_empty}
+use Rattle.flow_link.specs.Lists.{is_empty}
 use Rattle.flow_link.specs.Plan.{block_in, port_count, no_block}
 use Rattle.flow_link.specs.Trace.{Run, BlockTrace, InputTrace, is_done}
 use Rattle.flow_link.specs.Trace.{trace_of, marks_of, left_at, held_at, input_of}
@@ -29,7 +29,7 @@ use Rattle.flow_block_law.proofs.CompleteSeen.{complete_told}
 use Rattle.flow_block_law.proofs.JournalTells.{done_marked, goes_on}
 use Rattle.flow_core.specs.Keeps.{NetKeeps}
 use Rattle.flow_core.specs.State.{NetState, no_node, node_at}
-use Rattle.flow_lists.proofs.PlacesTell.{count_within}
+use Rattle.flow_link.proofs.PlacesTell.{count_within}
 use Rattle.flow_moves.specs.Ways.{input_in}
 use Rattle.flow_exec.specs.Works.{works_of}
 use Rattle.flow_net.specs.Net.{run_with}

@@ -5,8 +5,8 @@ use Rattle.std.proofs.Math.Seq.{map-set_same}
 use Rattle.std.proofs.lemmas.Bool.{and_from, and_parts, not-true}
 use Rattle.std.proofs.lemmas.List.{map-set}
 use Rattle.flow_value.specs.declared.value.Value.{Value}
-use Rattle.flow_lists.specs.Lists.{every}
-use Rattle.flow_lists.proofs.TestsTell.{every_set}
+use Rattle.flow_link.specs.Lists.{every}
+use Rattle.flow_link.proofs.TestsTell.{every_set}
 use Rattle.flow_link.specs.declared.phase.Move.{Move}
 use Rattle.flow_link.specs.declared.phase.Move.TheVariants as move
 use Rattle.flow_link.specs.declared.phase.Phase.{Phase}

@@ -1,6 +1,6 @@
 -- Nobody asks at an exit of a network: no receive waits there.
 use Rattle.std.specs.Prelude.{◌≡◌, ℕ, Bool, not, List}
-use Rattle.flow_lists.specs.Lists.{every}
+use Rattle.flow_link.specs.Lists.{every}
 use Rattle.flow_link.specs.declared.phase.Move.TheVariants.{Consume, Want}
 use Rattle.flow_link.specs.declared.plan.LinkTarget.TheVariants.{Exit}
 use Rattle.flow_link.specs.Layout.{Layout}

@@ -9,7 +9,7 @@ use Rattle.flow_poll.specs.Receives.{Sight, StaysOver}
 use Rattle.flow_exit.specs.Exit.{ExitState}
 use Rattle.flow_core.specs.State.{NetState, exit_at}
 use Rattle.flow_net.specs.Net.{run_with}
-use Rattle.flow_apart.specs.Sights.{sight_of}
+use Rattle.flow_moves.specs.Sights.{sight_of}
 use Rattle.flow_net.specs.declared.exit.NetExit.{NetExit}
 
 -- what is over stays over: from call to call, and over several

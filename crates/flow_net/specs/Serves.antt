@@ -9,7 +9,7 @@ use Rattle.flow_core.specs.Statements.{IsStill}
 use Rattle.flow_input.specs.Sends.{has_answer}
 use Rattle.flow_moves.specs.Ways.{exit_in, input_in}
 use Rattle.flow_net.specs.Happened.{Happened}
-use Rattle.flow_apart.specs.Sights.{comes_near}
+use Rattle.flow_moves.specs.Sights.{comes_near}
 use Rattle.flow_net.specs.declared.serve.Caller.{Caller}
 use Rattle.flow_net.specs.declared.serve.Caller.TheVariants as caller
 

@@ -11,7 +11,7 @@ use crate::engine::Engine;
 use crate::fault::NetFault;
 use crate::settled::Settled;
 use crossbeam_channel::{Receiver, Sender};
-use flow_apart::Spot;
+use flow_moves::Spot;
 use flow_value::Work;
 use std::alloc::Global;
 use std::sync::Wait;

@@ -1,8 +1,7 @@
 //! An event that a network does next, as its driver finds it.
-use flow_apart::{Agenda, Spot};
 use flow_block::Route;
 use flow_link::{LinkId, Move, PortId};
-use flow_moves::Parts;
+use flow_moves::{Agenda, Parts, Spot};
 
 /// One thing that may happen at a link or at a block, by their numbers.
 #[derive(Clone, Copy)]

@@ -1,6 +1,6 @@
 //! Drives the blocks and links of a network: finds an event that may happen, does it, and goes on.
 ghost use Rattle.std.specs.Prelude.{◌≡◌, ◌≢◌, [], map, length, IfOk, IfErr, OnOk, OnErr, Err};
-ghost use Rattle.flow_lists.specs.Lists.{below};
+ghost use Rattle.flow_link.specs.Lists.{below};
 ghost use Rattle.flow_link.specs.Planned.{layout_of};
 ghost use Rattle.flow_block.specs.Routes.{route_of};
 ghost use Rattle.flow_core.specs.Events.{NetEvent};
@@ -11,10 +11,9 @@ ghost use Rattle.flow_net.specs.declared.fault.NetFault.TheVariants.{NotEnabled,
 use crate::due::{Due, list_after};
 use crate::fault::NetFault;
 use crate::settled::Settled;
-use flow_apart::Agenda;
 use flow_block::Route;
 use flow_link::{LinkId, Move, Plan, step_of};
-use flow_moves::Parts;
+use flow_moves::{Agenda, Parts};
 use flow_value::Runs;
 use std::alloc::Global;
 

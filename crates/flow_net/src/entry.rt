@@ -11,13 +11,13 @@ ghost use Rattle.flow_input.specs.InputKeeps.{MayCallInput};
 ghost use Rattle.flow_input.specs.Sends.{after_told, has_id, is_idle, sends_of, takes_more, told_next};
 ghost use Rattle.flow_core.specs.State.{input_at};
 ghost use Rattle.flow_net.specs.Engine.{InOrder};
-ghost use Rattle.flow_apart.specs.Sights.{is_entry_of};
+ghost use Rattle.flow_moves.specs.Sights.{is_entry_of};
 
 use crate::engine::Engine;
 use crate::net::Net;
 use crate::serve::{Caller, memory_of};
-use flow_apart::Spot;
 use flow_link::{Ending, Link, LinkId, LinkSource};
+use flow_moves::Spot;
 use flow_poll::{SendFault, SendPort, Sent};
 use flow_value::{Runs, Value};
 use std::alloc::{AllocError, Global};
@@ -122,7 +122,7 @@ impl<W: Runs> Net<W> {
 impl<W: Runs> NetEntry<W> {
     ghost use Rattle.flow_link.specs.Trace.{marks_of, took_over};
     ghost use Rattle.flow_link.specs.declared.plan.LinkTarget.TheVariants.{Port};
-    ghost use Rattle.flow_lists.specs.Lists.{is_front};
+    ghost use Rattle.flow_link.specs.Lists.{is_front};
     ghost use Rattle.flow_poll.specs.Sends.{Begins, Tells};
     ghost use Rattle.flow_poll.specs.declared.send.SendFault.TheVariants.{Busy};
     ghost use Rattle.flow_net.specs.Entries.{EntryGoesOn, entry_layout, entry_link, entry_of, entry_parts, entry_run};

@@ -7,13 +7,13 @@ ghost use Rattle.flow_block.specs.Planned.{exit_place};
 ghost use Rattle.flow_exit.specs.Exit.{ExitCall, after_exit, exit_outcome, over_by};
 ghost use Rattle.flow_net.specs.Engine.{InOrder};
 ghost use Rattle.flow_poll.specs.Receives.{is_in_sight};
-ghost use Rattle.flow_apart.specs.Sights.{is_exit_of, sight_of};
+ghost use Rattle.flow_moves.specs.Sights.{is_exit_of, sight_of};
 
 use crate::engine::Engine;
 use crate::net::Net;
 use crate::serve::{Caller, comes_near, memory_of};
-use flow_apart::Spot;
 use flow_link::{Link, LinkId, LinkSource, LinkTarget, Outcome};
+use flow_moves::Spot;
 use flow_poll::{ReceivePort, Received};
 use flow_value::{Runs, Value};
 use std::alloc::{AllocError, Global};
@@ -177,7 +177,7 @@ impl<W: Runs> NetExit<W> {
 
 impl<W: Runs> ReceivePort for NetExit<W> {
     ghost use Rattle.flow_net.specs.Exits.{ExitGoesOn, exit_goes_further, exit_of, exit_stays};
-    ghost use Rattle.flow_apart.specs.Sights.{exit_seen};
+    ghost use Rattle.flow_moves.specs.Sights.{exit_seen};
 
     ghost receives = { λ port. exit_seen (exit_of port) };
 

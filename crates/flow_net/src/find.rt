@@ -18,11 +18,10 @@ ghost use Rattle.flow_net.specs.declared.fault.NetFault.TheVariants.{Ids};
 use crate::due::Due;
 use crate::engine::Engine;
 use crate::fault::NetFault;
-use flow_apart::{Spot, link_to_consume, link_to_offer};
 use flow_block::{Block, Route};
 use flow_input::Input;
 use flow_link::{LinkId, Move, PortId};
-use flow_moves::is_of_source;
+use flow_moves::{Spot, is_of_source, link_to_consume, link_to_offer};
 use flow_value::{MAX_ID, Runs};
 
 impl<W: Runs> Engine<W> {

@@ -2,7 +2,7 @@
 //! is none.
 ghost use Rattle.std.specs.Prelude.{◌≡◌, ◌+◌, ◌≤◌, true, length, map, count_by, replicate, IfOk, IfErr, []};
 ghost use Rattle.std.specs.Prelude.{vec_capacity, vec_len};
-ghost use Rattle.flow_lists.specs.Lists.{below, every};
+ghost use Rattle.flow_link.specs.Lists.{below, every};
 ghost use Rattle.flow_link.specs.Planned.{layout_of};
 ghost use Rattle.flow_input.specs.Input.{fresh_input};
 ghost use Rattle.flow_block.specs.Planned.{fresh_node, links_out};
@@ -14,12 +14,11 @@ ghost use Rattle.flow_link.specs.Posted.{input_of, ends_by_number};
 use crate::engine::Engine;
 use crate::net::Net;
 use crate::order::hides_turns;
-use flow_apart::Agenda;
 use flow_block::{Node, Route, routes_of};
 use flow_exit::ExitEnd;
 use flow_input::Input;
 use flow_link::{LinkState, Plan, Posted};
-use flow_moves::{Parts, exits_of, lines_of, nodes_of};
+use flow_moves::{Agenda, Parts, exits_of, lines_of, nodes_of};
 use flow_value::Runs;
 use std::alloc::{AllocError, Global};
 

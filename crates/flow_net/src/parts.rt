@@ -8,15 +8,14 @@ ghost use Rattle.flow_net.specs.Engine.{InOrder};
 
 use crate::engine::Engine;
 use crate::net::Net;
-use flow_apart::NetParts;
 use flow_link::LinkId;
-use flow_moves::Parts;
+use flow_moves::{NetParts, Parts};
 use flow_value::Runs;
 
 impl<W: Runs> Net<W> {
     ghost use Rattle.flow_lawful.specs.Lawful.{Lawful};
     ghost use Rattle.flow_core.specs.Inputs.{InputsStay};
-    ghost use Rattle.flow_apart.specs.Apart.{apart_in, apart_layout};
+    ghost use Rattle.flow_moves.specs.Apart.{apart_in, apart_layout};
     ghost use Rattle.flow_net.specs.Net.{layout_in, parts_of, run_of};
 
     /// The parts of the network.

@@ -13,8 +13,8 @@ ghost use Rattle.flow_net.specs.declared.fault.NetFault.TheVariants.{NotEnabled,
 use crate::due::Due;
 use crate::engine::Engine;
 use crate::fault::NetFault;
-use flow_apart::Spot;
 use flow_link::{LinkId, LinkSource, Move};
+use flow_moves::Spot;
 use flow_value::Runs;
 use std::alloc::Global;
 

@@ -4,7 +4,7 @@ ghost use Rattle.flow_input.specs.Sends.{has_answer};
 ghost use Rattle.flow_moves.specs.Ways.{exit_in, input_in};
 ghost use Rattle.flow_net.specs.Engine.{InOrder};
 ghost use Rattle.flow_net.specs.Serves.{has_enough, has_enough_for};
-ghost use Rattle.flow_apart.specs.Sights.{comes_near};
+ghost use Rattle.flow_moves.specs.Sights.{comes_near};
 
 use crate::engine::Engine;
 use crate::fault::NetFault;

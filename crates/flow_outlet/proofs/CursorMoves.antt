@@ -3,7 +3,7 @@ use Rattle.std.proofs.Common.{◌≡◌, ℕ, ◌+◌, ◌<◌, ◌≤◌, suc, 
 use Rattle.std.proofs.lemmas.Bool.Decides.{nat_tests}
 use Rattle.flow_value.specs.declared.value.Value.{Value}
 use Rattle.flow_link.specs.declared.stage.SourceStage.{SourceStage}
-use Rattle.flow_lists.proofs.ListTests.{at_most_one}
+use Rattle.flow_link.proofs.ListTests.{at_most_one}
 use Rattle.flow_outlet.specs.declared.ends.OutEnd.{OutEnd}
 use Rattle.flow_outlet.specs.End.{is_passed, place_in, cursor_after, end_in, count_at}
 use Rattle.flow_outlet.specs.Outlet.{recounted}

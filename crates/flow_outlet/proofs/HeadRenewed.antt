@@ -2,7 +2,7 @@
 use Rattle.std.proofs.Common.{◌≡◌, ℕ, suc, ◌<◌, ◌||◌, Bool, true, false, List, [], ◌∷◌, length, refl, arith}
 use Rattle.std.proofs.lemmas.Bool.{and_parts}
 use Rattle.std.specs.List.{list_any}
-use Rattle.flow_lists.proofs.TestsTell.{PassesAt}
+use Rattle.flow_link.proofs.TestsTell.{PassesAt}
 use Rattle.flow_outlet.specs.End.{no_end, is_waiting, speaks_of, waits_with}
 use Rattle.flow_outlet.specs.Outlet.{OutletState, stage_at, is_renewing}
 use Rattle.flow_outlet.specs.declared.ends.OutEnd.{OutEnd}

@@ -14,7 +14,7 @@ use Rattle.flow_link.specs.declared.stage.SourceStage.TheVariants.{Free, Out, En
 use Rattle.flow_link.specs.declared.trace.Outcome.{Outcome}
 use Rattle.flow_link.specs.LinkOk.{IsWithin, HasRoom}
 use Rattle.flow_link.specs.Stage.{source_looks, source_is_released}
-use Rattle.flow_lists.proofs.ListTests.{never_both}
+use Rattle.flow_link.proofs.ListTests.{never_both}
 use Rattle.flow_outlet.specs.declared.ends.OutEnd.{OutEnd}
 use Rattle.flow_outlet.specs.End.{id_of, speaks_of, is_spoken_for, is_over, is_cut, is_limit, rejects, no_end}
 use Rattle.flow_outlet.specs.Outlet.{OutletState, head_of, first_of, is_empty, end_at, stage_at, end_of, may_offer, offers, looks, offer_kept, changes, puts, sets_aside, puts_aside, lacks_ids, lacks_ids_for, prepares}

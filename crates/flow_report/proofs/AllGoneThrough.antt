@@ -1,8 +1,8 @@
 -- What has passed block by block has passed in all.
 use Rattle.std.proofs.Common.{◌≡◌, ℕ, ◌+◌, ◌<◌, Bool, true, false, sym}
 use Rattle.std.proofs.lemmas.Bool.{false_from_ne_true}
-use Rattle.flow_lists.specs.Lists.{every, below}
-use Rattle.flow_lists.proofs.ListTests.{every_below, passes_below}
+use Rattle.flow_link.specs.Lists.{every, below}
+use Rattle.flow_link.proofs.ListTests.{every_below, passes_below}
 use Rattle.flow_net.proofs.FindersTell.{one_more}
 
 pub one_more_passes : (test : ℕ → Bool) (n : ℕ) → every test (below n) ≡ true → true ≡ test n → every test (below (n + 1)) ≡ true

@@ -1,6 +1,6 @@
 -- The one number that passes a test, as far as all were tried.
 use Rattle.std.proofs.Common.{◌≡◌, ℕ, ◌+◌, ◌<◌, Bool, true, false, Option, Some, None, IfSome, is_some, length, refl, arith}
-use Rattle.flow_lists.proofs.ListTests.{never_both}
+use Rattle.flow_link.proofs.ListTests.{never_both}
 use Rattle.flow_link.specs.Plan.{ends_at_port}
 use Rattle.flow_link.specs.Trace.{Run, link_of}
 use Rattle.flow_net.proofs.FindersTell.{one_more}

@@ -21,8 +21,8 @@ use Rattle.flow_link.specs.Making.{result_of, results_of, is_made, block_result,
 use Rattle.flow_link.specs.Plan.{begins_at, ends_at_port, port_count, ports_by_kind}
 use Rattle.flow_link.specs.Trace.{Run, took, took_at, took_over, gave, gave_over, given_over, given_by, taken_by, block_of, link_of, link_numbers, trace_of, marks_of, held_at, left_at}
 use Rattle.flow_link.specs.WellFormed.{IsWellFormed}
-use Rattle.flow_lists.specs.Lists.{every, is_empty, same_values, is_subsequence, concat}
-use Rattle.flow_lists.proofs.ListTests.{passes_below}
+use Rattle.flow_link.specs.Lists.{every, is_empty, same_values, is_subsequence, concat}
+use Rattle.flow_link.proofs.ListTests.{passes_below}
 use Rattle.flow_lawful.specs.Law.{is_own_mark}
 use Rattle.flow_lawful.specs.Lawful.{Lawful}
 use Rattle.flow_report.specs.SameLists.{AllTaken, LeadsAlone, LeavesAlone, CarriesEach, hands_on}

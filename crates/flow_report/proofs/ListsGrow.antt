@@ -4,7 +4,7 @@ use Rattle.std.proofs.lemmas.List.{append-nil, take_more}
 use Rattle.std.specs.Io.KnownBytes.{Appends, append_known}
 use Rattle.flow_value.specs.declared.value.Value.{Value}
 use Rattle.flow_link.specs.declared.trace.Mark.{Mark}
-use Rattle.flow_lists.specs.Lists.{is_empty}
+use Rattle.flow_link.specs.Lists.{is_empty}
 use Rattle.flow_link.specs.declared.trace.Mark.TheVariants.{Took, Gave, Complete, Fault, Done}
 use Rattle.flow_link.specs.Trace.{took_where, gave_where}
 use Rattle.flow_link.proofs.JournalsGrow.{took_more, gave_more}

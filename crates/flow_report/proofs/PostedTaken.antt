@@ -12,8 +12,8 @@ use Rattle.flow_link.specs.Layout.{input_link}
 use Rattle.flow_link.specs.Plan.{is_write_once, ends_at_port, port_count}
 use Rattle.flow_link.specs.Trace.{Run, has_complete, is_done, block_of, link_of, link_numbers, marks_of, ports_of, input_of, waits_over}
 use Rattle.flow_link.specs.WellFormed.{IsWellFormed}
-use Rattle.flow_lists.specs.Lists.{every, some, is_empty, numbers_from}
-use Rattle.flow_lists.proofs.ListTests.{passes_below}
+use Rattle.flow_link.specs.Lists.{every, some, is_empty, numbers_from}
+use Rattle.flow_link.proofs.ListTests.{passes_below}
 use Rattle.flow_lawful.specs.Endings.{is_complete, is_complete_as, has_nothing, ends_rightly, brings_from, brings_completion, has_cause, is_complete_ending}
 use Rattle.flow_lawful.specs.Lawful.{Lawful}
 use Rattle.flow_net.specs.States.{fault_in, state_from, state_by}

@@ -5,7 +5,7 @@ use Rattle.std.proofs.lemmas.Bool.Decides.{nat_tests}
 use Rattle.std.proofs.Math.ListN.{drop_of_length-le}
 use Rattle.std.specs.Io.KnownBytes.{Appends}
 use Rattle.std.specs.List.{join_with_byte}
-use Rattle.flow_lists.specs.Lists.{is_empty}
+use Rattle.flow_link.specs.Lists.{is_empty}
 use Rattle.flow_value.specs.Items.{Items, done, int_then, text_then, row_then, value_count}
 use Rattle.flow_value.specs.View.{items_from, values_of, items_from-values_of}
 use Rattle.flow_value.specs.declared.value.Value.{Value}

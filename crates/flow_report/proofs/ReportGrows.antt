@@ -7,8 +7,8 @@ use Rattle.std.proofs.Math.Seq.{take-length}
 use Rattle.std.proofs.lemmas.List.Elements.{filter-append}
 use Rattle.std.specs.List.{filter, concat}
 use Rattle.std.specs.Io.KnownBytes.{Appends}
-use Rattle.flow_lists.proofs.ListTests.{below_more}
-use Rattle.flow_lists.specs.Lists.{below}
+use Rattle.flow_link.proofs.ListTests.{below_more}
+use Rattle.flow_link.specs.Lists.{below}
 use Rattle.flow_link.specs.declared.draft.BlockDef.{BlockDef}
 use Rattle.flow_link.specs.Layout.{input_link as the_input_link, input_links, IsLaidOut, between_of, exit_link as the_exit_link, exit_links, outer_links}
 use Rattle.flow_link.specs.declared.plan.Link.{Link}

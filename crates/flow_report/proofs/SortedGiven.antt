@@ -8,10 +8,10 @@ use Rattle.std.specs.declared.vec.Vec.{Vec}
 use Rattle.flow_value.specs.declared.value.Value.{Value}
 use Rattle.flow_link.specs.declared.trace.Mark.{Mark}
 use Rattle.flow_link.specs.declared.trace.Mark.TheVariants.{Took, Gave, Complete, Fault, Done}
-use Rattle.flow_lists.specs.Lists.{numbers_from, below}
+use Rattle.flow_link.specs.Lists.{numbers_from, below}
 use Rattle.flow_link.specs.Trace.{gave_over}
 use Rattle.flow_link.proofs.JournalsGrow.{gave_more}
-use Rattle.flow_lists.proofs.ListTests.{below_more}
+use Rattle.flow_link.proofs.ListTests.{below_more}
 use Rattle.flow_report.proofs.ListsGrow.{take-next}
 use Rattle.flow_report.specs.Given.{values_of, lists_of, given_lists}
 

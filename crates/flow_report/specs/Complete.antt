@@ -1,6 +1,6 @@
 -- When a run has gone through: every block is done, and nothing waits at an input.
 use Rattle.std.specs.Prelude.{ℕ, Bool, true, false, not, ◌&&◌, ◌||◌}
-use Rattle.flow_lists.specs.Lists.{every, is_empty}
+use Rattle.flow_link.specs.Lists.{every, is_empty}
 use Rattle.flow_link.specs.Trace.{Run, block_of, waits_over, block_numbers}
 use Rattle.flow_net.specs.declared.settled.State.{State}
 use Rattle.flow_net.specs.declared.settled.State.TheVariants as state

@@ -6,7 +6,7 @@ use Rattle.flow_value.specs.declared.value.Value.{Value}
 use Rattle.flow_value.specs.declared.kept.Seen.{Seen}
 use Rattle.flow_value.specs.Seen.{value_of_ref}
 use Rattle.flow_link.specs.declared.trace.Mark.{Mark}
-use Rattle.flow_lists.specs.Lists.{below}
+use Rattle.flow_link.specs.Lists.{below}
 use Rattle.flow_link.specs.Trace.{gave_over}
 
 -- the values to which references lead

@@ -11,7 +11,7 @@ use Rattle.flow_link.specs.declared.draft.BlockKind.TheVariants.{Action}
 use Rattle.flow_link.specs.declared.trace.Mark.{Mark}
 use Rattle.flow_link.specs.Layout.{outer_links}
 use Rattle.flow_link.specs.Plan.{begins_at}
-use Rattle.flow_lists.specs.Lists.{below}
+use Rattle.flow_link.specs.Lists.{below}
 use Rattle.flow_link.specs.Trace.{Run, took_at, gave_over, block_of, link_of, marks_of, trace_of, held_at, left_at, waits_over, ports_of, block_numbers}
 use Rattle.flow_net.specs.Net.{run_of}
 use Rattle.flow_net.specs.declared.net.Net.{Net}

@@ -19,7 +19,7 @@ use Rattle.flow_core.proofs.InputsChange.{fresh_none_posted, same_where_none_pos
 use Rattle.flow_exec.specs.Works.{works_of}
 use Rattle.flow_net.specs.Net.{NetGoesOn, NetIsStill, NetSettles, layout_in, parts_of, run_of, run_with}
 use Rattle.flow_link.specs.Posted.{input_of, is_numbered_ending, ends_by_number}
-use Rattle.flow_lists.specs.Lists.{every}
+use Rattle.flow_link.specs.Lists.{every}
 use Rattle.flow_net.specs.Settles.{Settles, GoesOn}
 use Rattle.flow_net.specs.declared.net.Net.{Net}
 use Rattle.flow_link.specs.declared.posted.Posted.{Posted}

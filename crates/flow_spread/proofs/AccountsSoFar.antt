@@ -9,7 +9,7 @@ use Rattle.flow_value.specs.When.{admits}
 use Rattle.flow_value.specs.declared.value.Value.{Value}
 use Rattle.flow_value.specs.declared.message.MessageStatus.{MessageStatus}
 use Rattle.flow_value.specs.declared.message.MessageStatus.TheVariants as status
-use Rattle.flow_lists.specs.Lists.{every, some}
+use Rattle.flow_link.specs.Lists.{every, some}
 use Rattle.flow_link.specs.declared.stage.SourceStage.{SourceStage}
 use Rattle.flow_link.specs.declared.stage.SourceStage.TheVariants.{Waiting, Wished, AskedBy, Reserved, Claimed, Refused, Crossing}
 use Rattle.flow_link.specs.declared.trace.Outcome.{Outcome}

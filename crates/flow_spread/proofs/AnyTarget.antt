@@ -6,7 +6,7 @@ use Rattle.std.proofs.lemmas.List.{length-map, map-set}
 use Rattle.std.proofs.Math.ListN.{get_or-map}
 use Rattle.flow_value.specs.When.{admits}
 use Rattle.flow_value.specs.declared.value.Value.{Value}
-use Rattle.flow_lists.specs.Lists.{every}
+use Rattle.flow_link.specs.Lists.{every}
 use Rattle.flow_link.specs.LinkOk.{IsWithin}
 use Rattle.flow_link.specs.Stage.{source_looks}
 use Rattle.flow_link.specs.declared.stage.SourceStage.{SourceStage}

@@ -2,7 +2,7 @@
 use Rattle.std.proofs.Common.{◌≡◌, ℕ, zero, suc, ◌+◌, ◌<◌, ◌≤◌, Bool, true, false, cond, List, [], ◌∷◌, length, set, map, refl, sym, ◌∙◌, ap, arith}
 use Rattle.flow_link.specs.declared.stage.SourceStage.{SourceStage}
 use Rattle.flow_link.specs.declared.stage.SourceStage.TheVariants.{Waiting}
-use Rattle.flow_lists.proofs.ListTests.{at_most_one}
+use Rattle.flow_link.proofs.ListTests.{at_most_one}
 use Rattle.flow_value.specs.declared.value.Value.{Value}
 use Rattle.flow_outlet.specs.ByLink.{forgotten_stage}
 use Rattle.flow_outlet.specs.End.{is_away, is_waiting}

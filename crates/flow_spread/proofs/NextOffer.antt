@@ -2,7 +2,7 @@
 use Rattle.std.proofs.Common.{◌≡◌, ℕ, ◌<◌, ◌≤◌, ◌&&◌, ltb, cond, Bool, true, false, length, Some, None, is_some, refl, ap, subst, inl, inr, arith}
 use Rattle.std.proofs.lemmas.Bool.{cases_lt, ltb-true, lt-ltb, and_parts, false_from_ne_true}
 use Rattle.std.proofs.lemmas.List.{get_or-set_same}
-use Rattle.flow_lists.proofs.ListTests.{never_both}
+use Rattle.flow_link.proofs.ListTests.{never_both}
 use Rattle.flow_spread.specs.End.{end_in, no_end, is_open, first_open}
 use Rattle.flow_spread.specs.Spread.{SpreadState, end_at, may_offer, next_place, prepares}
 use Rattle.flow_spread.proofs.SpreadFits.{none_before, open_there}

@@ -6,7 +6,7 @@ use Rattle.std.proofs.lemmas.List.Sums.{sum_by-cons}
 use Rattle.flow_value.specs.Function.{meaning_of}
 use Rattle.flow_value.specs.declared.steps.Steps.{Steps}
 use Rattle.flow_value.specs.declared.value.Value.{Value}
-use Rattle.flow_lists.specs.Lists.{every}
+use Rattle.flow_link.specs.Lists.{every}
 use Rattle.flow_link.specs.declared.draft.BlockDef.{BlockDef}
 use Rattle.flow_link.specs.declared.posted.Posted.{Posted}
 use Rattle.flow_link.specs.declared.trace.Ending.{Ending}

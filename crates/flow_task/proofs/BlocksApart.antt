@@ -3,7 +3,7 @@ use Rattle.std.proofs.Common.{◌≡◌, ℕ, ◌+◌, ◌<◌, List, [], ◌∷
 use Rattle.std.proofs.lemmas.List.{length_push, map-append}
 use Rattle.atomic_table.specs.Seated.{TableId}
 use Rattle.flow_value.specs.declared.value.Value.{Value}
-use Rattle.flow_lists.specs.Lists.{below}
+use Rattle.flow_link.specs.Lists.{below}
 use Rattle.flow_link.specs.Layout.{Layout}
 use Rattle.flow_block.specs.Node.{NodeState}
 use Rattle.flow_block_law.specs.NodeLaw.{NodeLaw}

@@ -11,9 +11,9 @@ use Rattle.flow_block.specs.contracts.node.Node as node
 use Rattle.flow_block.specs.contracts.planned.Route as route
 use Rattle.flow_exit.specs.contracts.exit_end.ExitEnd as exit_end
 use Rattle.flow_input.specs.contracts.input.Input as input
-use Rattle.flow_apart.specs.contracts.agenda.Agenda as agenda
-use Rattle.flow_apart.specs.contracts.agenda.Spot as spot
-use Rattle.flow_apart.specs.contracts.parts.NetParts as parts
+use Rattle.flow_moves.specs.contracts.agenda.Agenda as agenda
+use Rattle.flow_moves.specs.contracts.agenda.Spot as spot
+use Rattle.flow_moves.specs.contracts.apart.NetParts as parts
 use Rattle.flow_wire.specs.contracts.table.Wire as wire
 use Rattle.flow_task.specs.contracts.board.Board as board
 

@@ -1,8 +1,8 @@
 -- Ends of links are dealt out to rows, and taken back, one by one.
 use Rattle.std.proofs.Common.{◌≡◌, ℕ, zero, suc, ◌+◌, ◌<◌, Bool, true, false, List, [], ◌∷◌, ◌++◌, length, map, slice_set, slice_index_or, refl, sym, ap, ◌∙◌, arith}
 use Rattle.std.proofs.lemmas.List.{map-append, same_from_push}
-use Rattle.flow_lists.specs.Lists.{below}
-use Rattle.flow_lists.proofs.ListTests.{below_more}
+use Rattle.flow_link.specs.Lists.{below}
+use Rattle.flow_link.proofs.ListTests.{below_more}
 use Rattle.flow_block.proofs.PlanMade.{mapped_where, mapped_else}
 use Rattle.flow_task.specs.Dealt.{said_of}
 use Rattle.flow_task.proofs.Places.{all_same, set_at}

@@ -10,8 +10,8 @@ use Rattle.flow_link.specs.declared.stage.SourceStage.TheVariants.{Free, Posted,
 use Rattle.flow_link.specs.declared.trace.Ending.{Ending}
 use Rattle.flow_link.specs.declared.trace.Ending.TheVariants.{Open}
 use Rattle.flow_link.specs.Stage.{source_looks}
-use Rattle.flow_lists.specs.Lists.{is_front}
-use Rattle.flow_lists.proofs.ListTests.{front_refl}
+use Rattle.flow_link.specs.Lists.{is_front}
+use Rattle.flow_link.proofs.ListTests.{front_refl}
 use Rattle.flow_outlet.specs.End.{is_free}
 use Rattle.flow_outlet.specs.Law.{is_posted, is_refused}
 use Rattle.flow_input.specs.Input.{InputState, InputCall, after_input, end_by, has_next, is_turned_down, stands_at, takes_back}

@@ -24,7 +24,7 @@ use Rattle.flow_link.specs.declared.trace.Outcome.{Outcome}
 use Rattle.flow_poll.specs.Receives.{Gives, IsNotOver, ReceiveView, Sight, StaysOver}
 use Rattle.flow_poll.specs.declared.receive.Received.{Received}
 use Rattle.flow_poll.specs.declared.receive.Received.TheVariants as received
-use Rattle.flow_apart.specs.Sights.{comes_near, exit_seen, is_near, sight_at, sight_of}
+use Rattle.flow_moves.specs.Sights.{comes_near, exit_seen, is_near, sight_at, sight_of}
 use Rattle.flow_block.specs.Planned.{is_exit, leads_out}
 use Rattle.flow_exit.specs.Exit.{ExitState, ExitCall, after_exit, exit_after, exit_call, exit_move, exit_move_at, exit_outcome, exit_view, is_callers, outcome_at, over_by, wants_one}
 use Rattle.flow_exit.specs.ExitKeeps.{ExitLaw}

@@ -3,8 +3,8 @@ use Rattle.std.proofs.Common.{◌≡◌, ℕ, ◌+◌, ◌<◌, ◌-◌, Bool, t
 use Rattle.std.proofs.lemmas.Bool.{eqb-true}
 use Rattle.std.proofs.lemmas.List.{length_push}
 use Rattle.atomic_table.specs.Seated.{TableId}
-use Rattle.flow_lists.specs.Lists.{numbers_from, below}
-use Rattle.flow_lists.proofs.PlacesOfNumbers.{place_below}
+use Rattle.flow_link.specs.Lists.{numbers_from, below}
+use Rattle.flow_link.proofs.PlacesOfNumbers.{place_below}
 use Rattle.flow_link.specs.Layout.{Layout}
 use Rattle.flow_block.specs.Planned.{exit_place, leads_out, links_out}
 use Rattle.flow_exit.specs.Exit.{ExitState, fresh_exit}

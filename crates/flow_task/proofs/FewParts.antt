@@ -2,9 +2,9 @@
 use Rattle.std.proofs.Common.{◌≡◌, ℕ, ◌+◌, ◌<◌, ◌≤◌, leb, ltb, ◌==◌, ◌&&◌, not, Bool, true, false, List, length, filter, get_or, sym, ap, ◌∙◌, arith}
 use Rattle.std.proofs.lemmas.Bool.{eq-eqb, le-leb, lt-ltb}
 use Rattle.std.proofs.lemmas.List.Sums.{length-filter, count_by-le-length}
-use Rattle.flow_lists.specs.Lists.{below}
-use Rattle.flow_lists.proofs.ListTests.{length_numbers}
-use Rattle.flow_lists.proofs.PlacesOfNumbers.{stands_below}
+use Rattle.flow_link.specs.Lists.{below}
+use Rattle.flow_link.proofs.ListTests.{length_numbers}
+use Rattle.flow_link.proofs.PlacesOfNumbers.{stands_below}
 use Rattle.flow_link.specs.Layout.{Layout, IsLaidOut}
 use Rattle.flow_link.specs.WellFormed.{IsWellFormed}
 use Rattle.flow_link.proofs.PortsAreFew.{few_links}

@@ -2,7 +2,7 @@
 use Rattle.std.proofs.Common.{◌≡◌, ℕ, zero, suc, ◌+◌, ◌<◌, List, [], ◌∷◌, length, map, slice_get, slice_index_or, Option, Some, Result, refl, sym, ap, ◌∙◌, arith}
 use Rattle.atomic_table.specs.Seated.{TableId}
 use Rattle.flow_value.specs.declared.value.Value.{Value}
-use Rattle.flow_lists.specs.Lists.{numbers_from, below}
+use Rattle.flow_link.specs.Lists.{numbers_from, below}
 use Rattle.flow_link.specs.Layout.{Layout}
 use Rattle.flow_wire.specs.Ends.{SourceOf, TargetOf, starts_in, starts_out}
 use Rattle.flow_wire.specs.Sides.{SourceSide, TargetSide}

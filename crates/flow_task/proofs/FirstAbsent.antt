@@ -1,7 +1,7 @@
 -- The number that the first gap tells is that of a part that is not there.
 use Rattle.std.proofs.Common.{◌≡◌, ℕ, zero, suc, ◌+◌, ◌<◌, ◌≤◌, All, Option, None, Some, IfSome, List, [], ◌∷◌, map, slice_index_or, ap, sym, ◌∙◌, subst, arith, ⊎_elim}
 use Rattle.std.proofs.lemmas.Bool.{cases_lt}
-use Rattle.flow_lists.specs.Lists.{numbers_from}
+use Rattle.flow_link.specs.Lists.{numbers_from}
 use Rattle.flow_link.specs.Planned.{layout_of}
 use Rattle.flow_task.specs.Absent.{HasAll, IsAbsent, IsGap, IsThere}
 use Rattle.flow_task.specs.Numbers.{entry_count}

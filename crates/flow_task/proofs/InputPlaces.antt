@@ -1,8 +1,8 @@
 -- Inputs stand in the order of their links: as many inputs are before one as links of inputs before its own.
 use Rattle.std.proofs.Common.{◌≡◌, ℕ, zero, suc, ◌+◌, ◌-◌, ◌<◌, ◌≤◌, Bool, true, false, cond, List, [], ◌∷◌, ◌++◌, length, take, filter, refl, sym, ap, ◌∙◌, subst, arith, count_by, append_assoc, length-append}
 use Rattle.std.proofs.lemmas.List.Sums.{sum_by-cons, count_by_more_no, count_by_more_yes}
-use Rattle.flow_lists.specs.Lists.{below, every}
-use Rattle.flow_lists.proofs.ListTests.{never_both}
+use Rattle.flow_link.specs.Lists.{below, every}
+use Rattle.flow_link.proofs.ListTests.{never_both}
 use Rattle.std.proofs.lemmas.Bool.{and_parts}
 use Rattle.flow_link.specs.declared.draft.BlockDef.{BlockDef}
 use Rattle.flow_link.specs.declared.plan.Link.{Link}

@@ -1,8 +1,8 @@
 -- Which link the next input is of, by its number, where the inputs before a place are taken.
 use Rattle.std.proofs.Common.{◌≡◌, ℕ, ◌+◌, ◌<◌, ◌==◌, Bool, true, false, not, List, length, get_or, refl, sym, ap, ◌∙◌, arith}
 use Rattle.std.proofs.lemmas.Bool.{and_parts, eqb-true}
-use Rattle.flow_lists.proofs.PlacesOfNumbers.{place_below}
-use Rattle.flow_lists.proofs.PlacesTell.{places_differ}
+use Rattle.flow_link.proofs.PlacesOfNumbers.{place_below}
+use Rattle.flow_link.proofs.PlacesTell.{places_differ}
 use Rattle.flow_link.specs.Layout.{Layout}
 use Rattle.flow_block.proofs.PlanMade.{counted_where, counted_else}
 use Rattle.flow_task.specs.Inputs.{begins_at_input, links_of_inputs}

@@ -1,6 +1,6 @@
 -- The next input is taken from what is left of a network's parts.
 use Rattle.std.proofs.Common.{◌≡◌, ℕ, ◌+◌, ◌-◌, ◌<◌, ◌≤◌, true, false, List, ◌∷◌, length, map, get_or, ap, ◌∙◌, subst, arith}
-use Rattle.flow_lists.specs.Lists.{numbers_from}
+use Rattle.flow_link.specs.Lists.{numbers_from}
 use Rattle.flow_link.specs.Planned.{layout_of}
 use Rattle.flow_task.specs.Inputs.{begins_at_input, links_of_inputs}
 use Rattle.flow_task.specs.Lanes.{lane_count}

@@ -1,7 +1,7 @@
 -- One more input is part of a board.
 use Rattle.std.proofs.Common.{◌≡◌, ℕ, ◌+◌, not, true, false, List, [], ◌∷◌, ◌++◌, length, refl, sym, ap, ◌∙◌, arith}
 use Rattle.std.proofs.lemmas.List.Elements.{All-push}
-use Rattle.flow_lists.specs.Lists.{below, numbers_from}
+use Rattle.flow_link.specs.Lists.{below, numbers_from}
 use Rattle.flow_link.specs.Planned.{layout_of}
 use Rattle.flow_block.proofs.PlanMade.{counted_where, counted_else}
 use Rattle.flow_task.specs.declared.board.Board.{Board}

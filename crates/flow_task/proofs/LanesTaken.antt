@@ -2,7 +2,7 @@
 use Rattle.std.proofs.Common.{◌≡◌, ℕ, zero, suc, ◌+◌, ◌-◌, ◌<◌, true, All, List, [], ◌∷◌, length, map, get_or, slice_index_or, take, Option, Some, None, refl, sym, ap, ◌∙◌, subst, arith}
 use Rattle.std.specs.Option.{ForSome}
 use Rattle.std.proofs.lemmas.List.{get_or-map, get_or-take}
-use Rattle.flow_lists.specs.Lists.{below, numbers_from}
+use Rattle.flow_link.specs.Lists.{below, numbers_from}
 use Rattle.flow_link.specs.Planned.{layout_of}
 use Rattle.flow_link.specs.declared.trace.Mark.{Mark}
 use Rattle.flow_block.specs.Jobs.{is_out}

@@ -1,8 +1,8 @@
 -- The links that pass a test are found one by one.
 use Rattle.std.proofs.Common.{◌≡◌, ℕ, ◌+◌, Bool, true, false, cond, List, [], ◌∷◌, ◌++◌, filter, ap, sym, ◌∙◌, append-nil}
 use Rattle.std.proofs.lemmas.List.Elements.{filter-append}
-use Rattle.flow_lists.specs.Lists.{below}
-use Rattle.flow_lists.proofs.ListTests.{below_more}
+use Rattle.flow_link.specs.Lists.{below}
+use Rattle.flow_link.proofs.ListTests.{below_more}
 
 module _ (test : ℕ → Bool) (n : ℕ) (found : List ℕ) (so_far : found ≡ filter test (below n)) where
   one_more : filter test (below (n + 1)) ≡ found ++ cond (test n) (n ∷ []) []

@@ -2,8 +2,8 @@
 use Rattle.std.proofs.Common.{◌≡◌, ℕ, zero, suc, ◌+◌, ◌<◌, ◌≤◌, List, [], ◌∷◌, ◌++◌, length, map, drop, take, get_or, slice_index_or, sym, ap, ◌∙◌, arith}
 use Rattle.std.proofs.lemmas.List.{map-append, take-take}
 use Rattle.std.proofs.Math.Seq.{get_or-append_seam}
-use Rattle.flow_lists.specs.Lists.{numbers_from}
-use Rattle.flow_lists.proofs.ListTests.{numbers_more}
+use Rattle.flow_link.specs.Lists.{numbers_from}
+use Rattle.flow_link.proofs.ListTests.{numbers_more}
 use Rattle.flow_task.specs.declared.board.Board.{Board}
 use Rattle.flow_task.specs.declared.numbered.Entry.{Entry}
 use Rattle.flow_task.specs.declared.numbered.Exit.{Exit}

@@ -2,9 +2,9 @@
 use Rattle.std.proofs.Common.{◌≡◌, ℕ, ◌+◌, ◌<◌, ◌≤◌, leb, ltb, ◌==◌, Bool, true, length, filter, subst, ap, ◌∙◌, arith}
 use Rattle.std.proofs.lemmas.Bool.{and_parts, eqb-true, ltb-true}
 use Rattle.std.proofs.lemmas.List.Sums.{length-filter, count_by-le-length}
-use Rattle.flow_lists.specs.Lists.{below}
-use Rattle.flow_lists.proofs.ListTests.{length_numbers}
-use Rattle.flow_lists.proofs.PlacesOfNumbers.{place_below}
+use Rattle.flow_link.specs.Lists.{below}
+use Rattle.flow_link.proofs.ListTests.{length_numbers}
+use Rattle.flow_link.proofs.PlacesOfNumbers.{place_below}
 use Rattle.flow_link.proofs.PortsAreFew.{few_links}
 use Rattle.flow_link.specs.Planned.{layout_of}
 use Rattle.flow_block.specs.Planned.{exit_place, leads_out, links_out}

@@ -2,8 +2,8 @@
 use Rattle.std.proofs.Common.{◌≡◌, ℕ, ◌+◌, Bool, false, cond, List, [], ◌∷◌, length, filter, get_or, refl, sym, ap, ◌∙◌}
 use Rattle.std.specs.List.{count_by}
 use Rattle.std.proofs.lemmas.List.Sums.{sum_by-cons}
-use Rattle.flow_lists.specs.Lists.{below, numbers_from}
-use Rattle.flow_lists.proofs.PlacesOfNumbers.{count_shift, length_cond}
+use Rattle.flow_link.specs.Lists.{below, numbers_from}
+use Rattle.flow_link.proofs.PlacesOfNumbers.{count_shift, length_cond}
 
 -- those that pass a test, by their places
 pub count_places : (test : Bool → Bool) (opens : List Bool)

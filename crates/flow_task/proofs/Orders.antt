@@ -6,8 +6,8 @@ use Rattle.std.proofs.Math.Seq.{take-length}
 use Rattle.std.proofs.lemmas.Bool.{cases_order}
 use Rattle.std.proofs.lemmas.List.Sums.{sum_by-append}
 use Rattle.flow_value.specs.declared.value.Value.{Value}
-use Rattle.flow_lists.proofs.PlacesOfNumbers.{place_below, stands_below}
-use Rattle.flow_lists.proofs.PlacesTell.{count_within}
+use Rattle.flow_link.proofs.PlacesOfNumbers.{place_below, stands_below}
+use Rattle.flow_link.proofs.PlacesTell.{count_within}
 use Rattle.flow_link.specs.declared.draft.BlockDef.{BlockDef}
 use Rattle.flow_link.specs.declared.plan.Link.{Link}
 use Rattle.flow_link.specs.declared.plan.LinkTarget.{LinkTarget}

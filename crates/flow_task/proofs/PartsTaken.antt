@@ -7,7 +7,7 @@ use Rattle.std.proofs.Math.Seq.{get_or-append_seam}
 use Rattle.flow_block.specs.Planned.{exit_place}
 use Rattle.flow_exit.specs.Exit.{ExitState, fresh_exit}
 use Rattle.flow_input.specs.Input.{InputState, no_input}
-use Rattle.flow_lists.specs.Lists.{numbers_from}
+use Rattle.flow_link.specs.Lists.{numbers_from}
 use Rattle.flow_input.specs.InputKeeps.{PostedStays}
 use Rattle.flow_task.specs.Begun.{begun_input}
 use Rattle.flow_task.specs.Lefts.{EntryIsAt, ExitIsAt, IsTakenFrom}

@@ -1,6 +1,6 @@
 -- A list whose elements are, place by place, what a function says of their places.
 use Rattle.std.proofs.Common.{◌≡◌, ℕ, zero, suc, ◌+◌, ◌<◌, List, [], ◌∷◌, length, map, slice_get, slice_index_or, slice_set, Some, refl, sym, ap, ◌∙◌, subst, arith}
-use Rattle.flow_lists.specs.Lists.{numbers_from, below}
+use Rattle.flow_link.specs.Lists.{numbers_from, below}
 
 head_is : {A : Type 0} (x y : A) (xs ys : List A) → x ∷ xs ≡ y ∷ ys → x ≡ y
 head_is x y xs ys e = cc

@@ -2,8 +2,8 @@
 use Rattle.std.proofs.Common.{◌≡◌, ℕ, ◌==◌, Bool, true, false, not, ◌&&◌, ◌||◌, cond, List, [], ◌∷◌, Option, Some, None, is_none, refl}
 use Rattle.std.proofs.lemmas.Bool.{and_parts}
 use Rattle.std.specs.List.{list_any}
-use Rattle.flow_lists.specs.Lists.{every, is_empty}
-use Rattle.flow_lists.proofs.TestsTell.{every_tells}
+use Rattle.flow_link.specs.Lists.{every, is_empty}
+use Rattle.flow_link.proofs.TestsTell.{every_tells}
 use Rattle.flow_intake.specs.Ended.{fault_at_ends, first_some, has_seen_completion}
 use Rattle.flow_intake.specs.Port.{PortState, coming, fresh_port}
 use Rattle.flow_intake.specs.PortLaw.{has_ended}

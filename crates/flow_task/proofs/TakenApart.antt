@@ -2,8 +2,8 @@
 use Rattle.std.proofs.Common.{◌≡◌, ℕ, zero, suc, ◌+◌, ◌-◌, ◌<◌, ◌≤◌, List, [], ◌∷◌, ◌++◌, length, map, get_or, take, drop, sym, ap, ◌∙◌, subst, arith, ⊎_elim}
 use Rattle.std.proofs.lemmas.Bool.{cases_lt}
 use Rattle.std.proofs.lemmas.List.{map-append, length-map, get_or_append_left, get_or_push, length-map}
-use Rattle.flow_lists.specs.Lists.{numbers_from, below}
-use Rattle.flow_lists.proofs.ListTests.{below_more, length_numbers}
+use Rattle.flow_link.specs.Lists.{numbers_from, below}
+use Rattle.flow_link.proofs.ListTests.{below_more, length_numbers}
 use Rattle.flow_task.proofs.Places.{all_same}
 
 -- the first that is left

@@ -1,6 +1,6 @@
 -- Which parts of a scattered network are there.
 use Rattle.std.specs.Prelude.{◌≡◌, ◌≢◌, ℕ, ◌<◌, ◌≤◌, ◌+◌, List, length, map, slice_index_or}
-use Rattle.flow_lists.specs.Lists.{below, numbers_from}
+use Rattle.flow_link.specs.Lists.{below, numbers_from}
 use Rattle.flow_link.specs.Planned.{layout_of}
 use Rattle.flow_block.specs.Planned.{links_out}
 use Rattle.flow_task.specs.Numbers.{entry_count, task_count}

@@ -6,7 +6,7 @@ use Rattle.flow_value.specs.declared.work.WorkFault.{WorkFault}
 use Rattle.flow_poll.specs.Receives.{Sight, StaysOver}
 use Rattle.flow_poll.specs.declared.actor.Turned.{Turned}
 use Rattle.flow_poll.specs.declared.actor.TurnState.TheVariants.{Moved, Ended}
-use Rattle.flow_apart.specs.Sights.{sight_of}
+use Rattle.flow_moves.specs.Sights.{sight_of}
 use Rattle.flow_task.specs.Ended.{HasEnded}
 use Rattle.flow_task.specs.Parts.{entry_number, exit_number, exit_state, task_number, watched_block}
 use Rattle.flow_task.specs.Rests.{HasState, Rests}

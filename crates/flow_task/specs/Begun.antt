@@ -6,7 +6,7 @@ use Rattle.flow_link.specs.Planned.{layout_of}
 use Rattle.flow_core.specs.Inputs.{input_of}
 use Rattle.flow_core.specs.State.{NetState, node_at}
 use Rattle.flow_input.specs.Input.{InputState, input_trace}
-use Rattle.flow_apart.specs.Apart.{apart_in}
+use Rattle.flow_moves.specs.Apart.{apart_in}
 use Rattle.flow_poll.specs.Turns.{Extends}
 use Rattle.flow_task.specs.Numbers.{is_open, place_in}
 use Rattle.flow_task.specs.declared.board.Board.{Board}

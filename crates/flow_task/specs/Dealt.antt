@@ -1,7 +1,7 @@
 -- How the ends of the first links of a network are dealt out: each to the block, input or exit at which it is, in the order of the
 -- links.
 use Rattle.std.specs.Prelude.{ℕ, Bool, ◌<◌, ◌≤◌, List, length, map, filter, slice_index_or}
-use Rattle.flow_lists.specs.Lists.{below}
+use Rattle.flow_link.specs.Lists.{below}
 use Rattle.flow_link.specs.Layout.{Layout}
 use Rattle.flow_link.specs.Plan.{block_in, port_count}
 use Rattle.flow_block.specs.Planned.{is_out_of, is_into, leads_out}

@@ -1,7 +1,7 @@
 -- What an entry is to whoever posts into it, what it keeps, and what becomes of it.
 use Rattle.std.specs.Prelude.{◌≡◌, ◌+◌, ◌≤◌, Bool, true, false, cond, is_none, is_some, List, [], drop, length, take}
 use Rattle.flow_value.specs.declared.value.Value.{Value}
-use Rattle.flow_lists.specs.Lists.{is_front}
+use Rattle.flow_link.specs.Lists.{is_front}
 use Rattle.flow_outlet.specs.Law.{is_refused}
 use Rattle.flow_poll.specs.declared.send.Sent.{Sent}
 use Rattle.flow_poll.specs.declared.send.Sent.TheVariants as sent

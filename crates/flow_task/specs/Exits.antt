@@ -7,7 +7,7 @@ use Rattle.flow_value.specs.declared.value.Value.{Value}
 use Rattle.flow_link.specs.declared.phase.Move.{Move}
 use Rattle.flow_link.specs.declared.phase.Move.TheVariants as move
 use Rattle.flow_poll.specs.Receives.{StaysOver}
-use Rattle.flow_apart.specs.Sights.{sight_of}
+use Rattle.flow_moves.specs.Sights.{sight_of}
 use Rattle.flow_exit.specs.Exit.{ExitState, exit_after, exit_call, exit_move, exit_view}
 use Rattle.flow_task.specs.Known.{InKnown}
 

@@ -1,6 +1,6 @@
 -- What there is room for before the parts of a network are made, and that its lanes are made.
 use Rattle.std.specs.Prelude.{◌≡◌, ◌+◌, ◌≤◌, List, [], length, map, get_or, vec_capacity}
-use Rattle.flow_lists.specs.Lists.{below}
+use Rattle.flow_link.specs.Lists.{below}
 use Rattle.flow_link.specs.Layout.{Layout}
 use Rattle.flow_block.specs.Node.{NodeState}
 use Rattle.flow_block.specs.Planned.{links_out}

@@ -1,6 +1,6 @@
 -- What the end of an input's link is, where that link begins, what comes of a turn, and when an input has nothing to do.
 use Rattle.std.specs.Prelude.{◌≡◌, ℕ, ◌<◌, ◌^◌, ltb, cond, Bool, true, false, List, filter, length, slice_get, Some}
-use Rattle.flow_lists.specs.Lists.{below}
+use Rattle.flow_link.specs.Lists.{below}
 use Rattle.atomic_table.specs.Seated.{TableId}
 use Rattle.flow_link.specs.declared.phase.Move.{Move}
 use Rattle.flow_link.specs.declared.phase.Move.TheVariants as move

@@ -3,7 +3,7 @@
 use Rattle.std.specs.Prelude.{ℕ, List, length, map, get_or, slice_get, Option, Some}
 use Rattle.atomic_table.specs.Seated.{TableId}
 use Rattle.flow_value.specs.declared.value.Value.{Value}
-use Rattle.flow_lists.specs.Lists.{below}
+use Rattle.flow_link.specs.Lists.{below}
 use Rattle.flow_link.specs.Facts.{facts_in}
 use Rattle.flow_link.specs.Layout.{Layout}
 use Rattle.flow_link.specs.Plan.{link_in}

@@ -1,6 +1,6 @@
 -- What is left of the parts of a scattered network when the inputs before a place are taken, and where those stand that are.
 use Rattle.std.specs.Prelude.{◌≡◌, ℕ, ◌+◌, ◌-◌, Bool, true, false, List, ◌∷◌, get_or, length, map}
-use Rattle.flow_lists.specs.Lists.{numbers_from}
+use Rattle.flow_link.specs.Lists.{numbers_from}
 use Rattle.flow_link.specs.Planned.{layout_of}
 use Rattle.flow_block.specs.Jobs.{is_out}
 use Rattle.flow_block.specs.Node.{NodeState}

@@ -1,6 +1,6 @@
 -- How far the inputs of a network have become parts of its board.
 use Rattle.std.specs.Prelude.{◌≡◌, ℕ, ◌+◌, List, length, map}
-use Rattle.flow_lists.specs.Lists.{below, numbers_from}
+use Rattle.flow_link.specs.Lists.{below, numbers_from}
 use Rattle.flow_link.specs.Planned.{layout_of}
 use Rattle.flow_task.specs.Numbers.{closed_before, open_before, task_count}
 use Rattle.flow_task.specs.Parts.{AllEntriesOf, AllTasksOf, entry_number, task_number}

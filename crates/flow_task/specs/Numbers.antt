@@ -1,7 +1,7 @@
 -- The numbers of the parts of a scattered network: its blocks, then the inputs that are turned, then the lanes of blocks that have
 -- several, then the inputs that are entries, then the exits, each in the order of the network.
 use Rattle.std.specs.Prelude.{ℕ, ◌+◌, Bool, false, not, leb, ltb, ◌==◌, ◌&&◌, List, length, filter, get_or}
-use Rattle.flow_lists.specs.Lists.{below}
+use Rattle.flow_link.specs.Lists.{below}
 use Rattle.flow_link.specs.Layout.{Layout}
 use Rattle.flow_block.specs.Planned.{exit_place}
 use Rattle.flow_task.specs.Inputs.{begins_at_input}

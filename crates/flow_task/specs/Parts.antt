@@ -14,7 +14,7 @@ use Rattle.flow_block.specs.Node.{NodeState}
 use Rattle.flow_core.specs.State.{no_node}
 use Rattle.flow_exit.specs.Exit.{ExitState}
 use Rattle.flow_input.specs.Input.{InputState}
-use Rattle.flow_apart.specs.declared.parts.NetParts.{NetParts}
+use Rattle.flow_moves.specs.declared.apart.NetParts.{NetParts}
 use Rattle.flow_task.specs.Laned.{stands_in}
 use Rattle.flow_task.specs.LaneTasks.{job_of}
 use Rattle.flow_task.specs.declared.board.Board.{Board}

@@ -1,7 +1,7 @@
 -- The wires of links, and both ends of each: each end knows what it knew of its link.
 use Rattle.std.specs.Prelude.{◌≡◌, ℕ, ◌<◌, false, List, [], ◌∷◌, ◌++◌, length, map, get_or, slice_get, slice_index_or, None}
 use Rattle.atomic_table.specs.Seated.{TableId}
-use Rattle.flow_lists.specs.Lists.{below}
+use Rattle.flow_link.specs.Lists.{below}
 use Rattle.flow_link.specs.declared.phase.Phase.TheVariants.{Idle}
 use Rattle.flow_link.specs.declared.trace.LinkState.{LinkState}
 use Rattle.flow_link.specs.Facts.{facts_in}

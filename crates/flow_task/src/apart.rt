@@ -1,6 +1,6 @@
 //! The parts of a scattered network are taken apart, in the order of their numbers.
 ghost use Rattle.std.specs.Prelude.{◌≡◌, ℕ, ◌<◌, ◌≤◌, ◌+◌, ◌-◌, false, All, [], length, map, drop, take, get_or, vec_capacity};
-ghost use Rattle.flow_lists.specs.Lists.{below, numbers_from};
+ghost use Rattle.flow_link.specs.Lists.{below, numbers_from};
 ghost use Rattle.flow_block_law.specs.NodeLaw.{NodeLaw};
 ghost use Rattle.flow_core.specs.Inputs.{input_of};
 ghost use Rattle.flow_core.specs.State.{no_node};

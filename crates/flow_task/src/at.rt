@@ -2,7 +2,7 @@
 ghost use Rattle.std.specs.Prelude.{◌≡◌};
 ghost use Rattle.flow_input.specs.Sends.{has_id, sends_of};
 ghost use Rattle.flow_task.specs.Parts.{board_of, entry_board, entry_state, exit_board, exit_state, watched_board};
-ghost use Rattle.flow_apart.specs.Sights.{exit_seen};
+ghost use Rattle.flow_moves.specs.Sights.{exit_seen};
 
 use crate::board::Board;
 use crate::numbered::{Entry, Exit, Task, Watch};

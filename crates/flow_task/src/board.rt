@@ -4,13 +4,13 @@ ghost use Rattle.std.specs.Option.{IfNone};
 ghost use Rattle.flow_link.specs.Planned.{layout_of};
 ghost use Rattle.flow_block.specs.Planned.{links_out};
 ghost use Rattle.flow_task.specs.Inputs.{OpenOnesPost, links_of_inputs, stays_open};
-ghost use Rattle.flow_apart.specs.Apart.{apart_in};
+ghost use Rattle.flow_moves.specs.Apart.{apart_in};
 ghost use Rattle.flow_task.specs.Lanes.{lane_count};
 ghost use Rattle.flow_task.specs.Numbers.{closed_before, entry_count};
 
 use crate::lane_rows::lane_count;
-use flow_apart::NetParts;
 use flow_link::{LinkId, Outcome};
+use flow_moves::NetParts;
 use flow_wire::Wire;
 use once_cell::race::OnceBox;
 use std::snapshot::Snapshot;

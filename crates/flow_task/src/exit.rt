@@ -7,7 +7,7 @@ ghost use Rattle.flow_task.specs.Exits.{ExitGoes, StepsBy, answers_plainly};
 ghost use Rattle.flow_exit.specs.Exit.{ExitCall, after_exit, exit_after, exit_call, exit_move};
 ghost use Rattle.flow_exit.specs.ExitKeeps.{MayMoveExit};
 ghost use Rattle.flow_poll.specs.Receives.{Gives, StaysOver, is_in_sight};
-ghost use Rattle.flow_apart.specs.Sights.{comes_near, exit_seen, sight_of};
+ghost use Rattle.flow_moves.specs.Sights.{comes_near, exit_seen, sight_of};
 ghost use Rattle.flow_task.specs.Parts.{exit_board, exit_number, exit_state};
 
 use crate::board::Board;

@@ -1,6 +1,6 @@
 //! The parts of a scattered network are made, each with its number.
 ghost use Rattle.std.specs.Prelude.{◌≡◌, ℕ, ◌<◌, ◌≤◌, ◌+◌, true, [], length, map, get_or, drop, take, vec_capacity};
-ghost use Rattle.flow_lists.specs.Lists.{below, numbers_from};
+ghost use Rattle.flow_link.specs.Lists.{below, numbers_from};
 ghost use Rattle.flow_link.specs.Planned.{layout_of};
 ghost use Rattle.flow_block_law.specs.NodeLaw.{NodeLaw};
 ghost use Rattle.flow_core.specs.Inputs.{input_of};

@@ -1,7 +1,7 @@
 //! Which parts of a scattered network are missing.
 ghost use Rattle.std.specs.Prelude.{◌≡◌, ◌≤◌, ◌<◌, ◌-◌, ℕ, All, map, IfSome, IfNone};
 ghost use Rattle.std.specs.List.Sorted.{IsNonDecreasingBy, IsPermutation};
-ghost use Rattle.flow_lists.specs.Lists.{numbers_from};
+ghost use Rattle.flow_link.specs.Lists.{numbers_from};
 ghost use Rattle.flow_task.specs.Absent.{AllDiffer, AllThere, EntriesStay, ExitsStay, HasAll, IsAbsent, IsGap, IsThere, NoTwoAlike, TasksStay, part_count};
 ghost use Rattle.flow_task.specs.Parts.{AllEntriesOf, AllExitsOf, AllTasksOf, entry_number, exit_number, task_number};
 

@@ -277,7 +277,7 @@ impl<W: Runs> BlockTask<W> {
 }
 
 /// Whether nothing has come to a block by which a port of it may complete or it may stop: the one test that most turns need.
-#[tactic(auto, using(flow_lists::proofs::FirstInOrder::all_is_every))]
+#[tactic(auto, using(flow_link::proofs::FirstInOrder::all_is_every))]
 fn is_running(block: &Block) -> bool
     ensures { result ≡ is_running block.now }
 {

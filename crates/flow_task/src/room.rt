@@ -1,6 +1,6 @@
 //! Room for the ends of all links of a network, before they are dealt out.
 ghost use Rattle.std.specs.Prelude.{◌≡◌, ℕ, ◌<◌, ◌≤◌, [], length, map, get_or, vec_capacity, IfOk, cond};
-ghost use Rattle.flow_lists.specs.Lists.{below};
+ghost use Rattle.flow_link.specs.Lists.{below};
 ghost use Rattle.flow_block.specs.Block.{port_at};
 ghost use Rattle.flow_core.specs.MovesFit.{in_count, out_count};
 ghost use Rattle.flow_core.specs.State.{no_node};

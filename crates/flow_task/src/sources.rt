@@ -1,6 +1,6 @@
 //! The sources' ends of the links of a network, dealt out to its blocks and inputs, and taken back.
 ghost use Rattle.std.specs.Prelude.{◌≡◌, ℕ, ◌<◌, ◌≤◌, ◌+◌, ◌++◌, ◌∷◌, [], length, map, vec_capacity, IfOk};
-ghost use Rattle.flow_lists.specs.Lists.{below};
+ghost use Rattle.flow_link.specs.Lists.{below};
 ghost use Rattle.flow_link.specs.Planned.{layout_of};
 ghost use Rattle.flow_block.specs.Planned.{links_from};
 ghost use Rattle.flow_task.specs.Dealt.{HasRooms, inputs_dealt, outs_dealt};

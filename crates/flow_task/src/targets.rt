@@ -1,6 +1,6 @@
 //! The targets' ends of the links of a network, dealt out to the ports of its blocks and to its exits, and taken back.
 ghost use Rattle.std.specs.Prelude.{◌≡◌, ℕ, ◌<◌, ◌≤◌, ◌+◌, [], length, map, vec_capacity};
-ghost use Rattle.flow_lists.specs.Lists.{below};
+ghost use Rattle.flow_link.specs.Lists.{below};
 ghost use Rattle.flow_link.specs.Planned.{layout_of};
 ghost use Rattle.flow_block.specs.Planned.{links_out, links_to};
 ghost use Rattle.flow_task.specs.Dealt.{HasRooms, HasRoomsIn, exits_dealt, ins_dealt};

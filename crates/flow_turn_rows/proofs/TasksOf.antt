@@ -1,6 +1,6 @@
 -- Tasks of one board, by their places, in part and together.
 use Rattle.std.proofs.Common.{◌≡◌, ℕ, zero, suc, ◌<◌, List, [], ◌∷◌, ◌++◌, length, map, slice_index_or, set, take, drop, ap, sym, subst, ◌∙◌, arith}
-use Rattle.flow_lists.specs.Lists.{below}
+use Rattle.flow_link.specs.Lists.{below}
 use Rattle.flow_board.specs.Parts.{AllTasksOf, board_of}
 use Rattle.flow_task.specs.declared.board.Board.{Board}
 use Rattle.flow_task.specs.declared.numbered.Task.{Task}

@@ -2,7 +2,7 @@ use Rattle.std.proofs.Common.{ℕ, ◌<◌, length, Option, None, unwrap_or, is_
 use Rattle.std.proofs.lemmas.List.{get_or_read}
 use Rattle.flow_intake.specs.Port.{fresh_port}
 use Rattle.flow_block.specs.Traits.{has_link}
-use Rattle.flow_lists.proofs.PlacesNamed.{place_is, place_nowhere}
+use Rattle.flow_link.proofs.PlacesNamed.{place_is, place_nowhere}
 use Rattle.flow_block.proofs.by_link.port_into.Goals as goal
 
 pub returns-then-is_some-clause-port : goal.returns-then-is_some-clause-port

@@ -1,5 +1,5 @@
 use Rattle.std.proofs.Common.{◌≡◌, map, filter}
-use Rattle.flow_lists.specs.Lists.{below}
+use Rattle.flow_link.specs.Lists.{below}
 use Rattle.flow_link.specs.Plan.{block_in, is_reserving}
 use Rattle.flow_link.specs.Planned.{layout_of}
 use Rattle.flow_intake.specs.Port.{fresh_port, fresh_end}

@@ -1,5 +1,5 @@
 use Rattle.std.proofs.Common.{◌≡◌, map, filter}
-use Rattle.flow_lists.specs.Lists.{below}
+use Rattle.flow_link.specs.Lists.{below}
 use Rattle.flow_link.specs.Planned.{layout_of}
 use Rattle.flow_block.specs.Planned.{enters, source_by}
 use Rattle.flow_block.proofs.planned.sources_into.Given as goal

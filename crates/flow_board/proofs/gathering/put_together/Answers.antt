@@ -5,7 +5,7 @@ use Rattle.flow_core.specs.InOrder.{all_looked}
 use Rattle.flow_exec.specs.Works.{works_of}
 use Rattle.flow_exit.specs.Exit.{ExitState, caller_of}
 use Rattle.flow_net.specs.Asked.{none_wait}
-use Rattle.flow_apart.specs.Apart.{apart_in}
+use Rattle.flow_moves.specs.Apart.{apart_in}
 use Rattle.flow_task.proofs.Scatters.{moved}
 use Rattle.flow_board.proofs.gathering.put_together.Goals as goal
 

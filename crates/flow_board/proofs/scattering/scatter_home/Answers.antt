@@ -12,8 +12,8 @@ use Rattle.flow_core.specs.InOrder.{NetInOrder, all_looked, journals_of}
 use Rattle.flow_core.specs.State.{NetState, line_at}
 use Rattle.flow_exec.specs.Works.{works_of}
 use Rattle.flow_exit.specs.Exit.{ExitState, caller_of}
-use Rattle.flow_apart.specs.Apart.{apart_in, apart_layout}
-use Rattle.flow_apart.specs.declared.parts.NetParts.{NetParts}
+use Rattle.flow_moves.specs.Apart.{apart_in, apart_layout}
+use Rattle.flow_moves.specs.declared.apart.NetParts.{NetParts}
 use Rattle.flow_net.specs.Asked.{none_wait}
 use Rattle.flow_net.specs.Net.{layout_in, parts_of}
 use Rattle.flow_task.specs.Frames.{IsRoomFor}

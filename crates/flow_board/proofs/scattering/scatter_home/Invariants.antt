@@ -1,5 +1,5 @@
 use Rattle.flow_link.specs.Planned.{layout_of}
-use Rattle.flow_apart.specs.Apart.{apart_in}
+use Rattle.flow_moves.specs.Apart.{apart_in}
 use Rattle.flow_task.specs.Wired.{starts_of}
 use Rattle.flow_board.proofs.scattering.scatter_home.Given as goal
 

@@ -1,5 +1,5 @@
 use Rattle.std.proofs.Common.{ap, ◌∙◌}
-use Rattle.flow_lists.specs.Lists.{every}
+use Rattle.flow_link.specs.Lists.{every}
 use Rattle.flow_link.specs.Planned.{layout_of}
 use Rattle.flow_intake.specs.Port.{PortState}
 use Rattle.flow_outlet.specs.Outlet.{is_empty}

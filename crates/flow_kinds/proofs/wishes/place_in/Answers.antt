@@ -1,6 +1,6 @@
 use Rattle.std.proofs.Common.{◌==◌, ◌<◌, length, sym, arith, eq-eqb, ◌∙◌}
 use Rattle.flow_intake.specs.Port.{EndState, fresh_end}
-use Rattle.flow_lists.proofs.PlacesNamed.{place_is, place_nowhere}
+use Rattle.flow_link.proofs.PlacesNamed.{place_is, place_nowhere}
 use Rattle.flow_kinds.proofs.wishes.place_in.Goals as goal
 
 pub returns-then-link : goal.returns-then-link

@@ -1,7 +1,7 @@
 use Rattle.std.proofs.Common.{◌≡◌, ◌<◌, length, inl, inr, sym, ◌∙◌, ap, arith}
 use Rattle.std.proofs.lemmas.Bool.{cases_lt}
-use Rattle.flow_lists.specs.Lists.{below}
-use Rattle.flow_lists.proofs.PlacesNamed.{place_is, place_nowhere}
+use Rattle.flow_link.specs.Lists.{below}
+use Rattle.flow_link.proofs.PlacesNamed.{place_is, place_nowhere}
 use Rattle.flow_block.proofs.TargetMoves.{number_at, below_count}
 use Rattle.flow_kinds.specs.Wishes.{wishes_at}
 use Rattle.flow_kinds.proofs.wishes.wishing_port.Goals as goal

@@ -1,6 +1,6 @@
 use Rattle.std.proofs.Common.{sym, ◌∙◌, take, is_some, length, below_more, arith}
 use Rattle.flow_link.specs.Plan.{block_named, block_in}
-use Rattle.flow_lists.proofs.FirstInOrder.{first_below, none_below}
+use Rattle.flow_link.proofs.FirstInOrder.{first_below, none_below}
 use Rattle.flow_link.proofs.FirstOfEachFault.{repeats_at}
 use Rattle.flow_link.proofs.check.first_duplicate_name.Goals as goal
 

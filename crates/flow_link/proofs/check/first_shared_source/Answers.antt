@@ -1,6 +1,6 @@
 use Rattle.std.proofs.Common.{sym, ◌∙◌, length, below_more, arith}
 use Rattle.flow_link.specs.PlanFaults.{shares_among}
-use Rattle.flow_lists.proofs.FirstInOrder.{first_below, none_below}
+use Rattle.flow_link.proofs.FirstInOrder.{first_below, none_below}
 use Rattle.flow_link.proofs.check.first_shared_source.Goals as goal
 
 pub loop-block-preserved : goal.loop-block-preserved

@@ -1,6 +1,6 @@
 use Rattle.std.proofs.Common.{sym, ◌∙◌, below_more, arith}
 use Rattle.flow_link.specs.PlanFaults.{leads_twice}
-use Rattle.flow_lists.proofs.FirstInOrder.{any_is_some}
+use Rattle.flow_link.proofs.FirstInOrder.{any_is_some}
 use Rattle.flow_link.proofs.RoundsOfWalks.{some_here_below, some_none_below}
 use Rattle.flow_link.proofs.check.has_shared_source.Goals as goal
 

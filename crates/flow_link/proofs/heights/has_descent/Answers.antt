@@ -1,5 +1,5 @@
 use Rattle.std.proofs.Common.{◌∙◌, sym, arith}
-use Rattle.flow_lists.proofs.FirstInOrder.{any_is_some}
+use Rattle.flow_link.proofs.FirstInOrder.{any_is_some}
 use Rattle.flow_link.specs.Heights.{rises}
 use Rattle.flow_link.proofs.DownEachLink.{walks_none}
 use Rattle.flow_link.proofs.heights.has_descent.Goals as goal

@@ -1,5 +1,5 @@
 use Rattle.std.proofs.Common.{ap, ◌∙◌, List}
-use Rattle.flow_lists.specs.Lists.{below, every}
+use Rattle.flow_link.specs.Lists.{below, every}
 use Rattle.flow_link.specs.Plan.{block_in, port_count}
 use Rattle.flow_link.specs.Planned.{layout_of}
 use Rattle.flow_intake.specs.Port.{PortState}

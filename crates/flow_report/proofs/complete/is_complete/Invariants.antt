@@ -1,5 +1,5 @@
 use Rattle.std.proofs.Common.{◌≡◌, true}
-use Rattle.flow_lists.specs.Lists.{every, below}
+use Rattle.flow_link.specs.Lists.{every, below}
 use Rattle.flow_report.specs.Complete.{has_gone_through}
 use Rattle.flow_report.specs.Report.{run_in}
 use Rattle.flow_report.proofs.complete.is_complete.Given as goal

@@ -1,6 +1,6 @@
 use Rattle.std.proofs.Common.{◌≡◌, [], map}
 use Rattle.std.specs.Io.KnownBytes.{Appends, append_known}
-use Rattle.flow_lists.specs.Lists.{is_empty}
+use Rattle.flow_link.specs.Lists.{is_empty}
 use Rattle.flow_report.specs.Given.{seen_value}
 use Rattle.flow_report.specs.Printed.{opened}
 use Rattle.flow_report.specs.Written.{StaysInFront}

@@ -1,7 +1,7 @@
 use Rattle.std.proofs.Common.{◌≡◌, length, map}
 use Rattle.std.specs.List.{concat, filter}
 use Rattle.std.specs.Io.KnownBytes.{Appends}
-use Rattle.flow_lists.specs.Lists.{below}
+use Rattle.flow_link.specs.Lists.{below}
 use Rattle.flow_link.specs.Plan.{begins_at}
 use Rattle.flow_link.specs.Trace.{link_of, marks_of}
 use Rattle.flow_report.specs.Given.{lists_of, given_lists}

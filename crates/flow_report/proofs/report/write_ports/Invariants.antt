@@ -1,7 +1,7 @@
 use Rattle.std.proofs.Common.{map}
 use Rattle.std.specs.List.{concat}
 use Rattle.std.specs.Io.KnownBytes.{Appends}
-use Rattle.flow_lists.specs.Lists.{below}
+use Rattle.flow_link.specs.Lists.{below}
 use Rattle.flow_report.specs.KeptList.{Fits}
 use Rattle.flow_report.specs.Report.{port_lines, run_in}
 use Rattle.flow_report.specs.Written.{StaysInFront}

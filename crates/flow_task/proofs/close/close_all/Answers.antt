@@ -8,7 +8,7 @@ use Rattle.flow_link.specs.LinkOk.{LinkOk}
 use Rattle.flow_link.specs.Planned.{layout_of}
 use Rattle.flow_link.specs.Views.{LinkFacts, SourceView, TargetView}
 use Rattle.flow_link.proofs.PortsAreFew.{few_links}
-use Rattle.flow_lists.proofs.PlacesTell.{element_set}
+use Rattle.flow_link.proofs.PlacesTell.{element_set}
 use Rattle.flow_task.specs.Dealt.{exits_dealt, inputs_dealt, ins_dealt, outs_dealt}
 use Rattle.flow_task.specs.Known.{OutKnown, InKnown}
 use Rattle.flow_task.specs.Wired.{idle, source_said, target_said}

@@ -1,5 +1,5 @@
 use Rattle.std.proofs.Common.{◌≡◌, filter}
-use Rattle.flow_lists.specs.Lists.{below}
+use Rattle.flow_link.specs.Lists.{below}
 use Rattle.flow_link.specs.Planned.{layout_of}
 use Rattle.flow_task.specs.Inputs.{begins_at_input}
 use Rattle.flow_task.proofs.frame.input_links.Given as goal

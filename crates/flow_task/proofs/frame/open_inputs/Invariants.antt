@@ -1,5 +1,5 @@
 use Rattle.std.proofs.Common.{◌≡◌, ◌≤◌, length, map, get_or, vec_len, vec_capacity}
-use Rattle.flow_lists.specs.Lists.{below}
+use Rattle.flow_link.specs.Lists.{below}
 use Rattle.flow_input.specs.Input.{no_input}
 use Rattle.flow_task.specs.Inputs.{stays_open}
 use Rattle.flow_task.proofs.frame.open_inputs.Given as goal

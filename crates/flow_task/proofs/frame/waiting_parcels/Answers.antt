@@ -1,6 +1,6 @@
 use Rattle.std.proofs.Common.{rules, ◌≡◌, ◌<◌, length, map, get_or, sym, ap, ◌∙◌}
 use Rattle.std.proofs.lemmas.List.{get_or_default}
-use Rattle.flow_lists.specs.Lists.{below}
+use Rattle.flow_link.specs.Lists.{below}
 use Rattle.flow_input.specs.Input.{no_input}
 use Rattle.flow_task.specs.Entries.{waits_in}
 use Rattle.flow_task.proofs.DuesByPlace.{by_places}

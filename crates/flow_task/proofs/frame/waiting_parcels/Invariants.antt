@@ -1,5 +1,5 @@
 use Rattle.std.proofs.Common.{◌≡◌, ◌≤◌, length, map, get_or, vec_len, vec_capacity}
-use Rattle.flow_lists.specs.Lists.{below}
+use Rattle.flow_link.specs.Lists.{below}
 use Rattle.flow_input.specs.Input.{no_input}
 use Rattle.flow_task.specs.Entries.{waits_in}
 use Rattle.flow_task.proofs.frame.waiting_parcels.Given as goal

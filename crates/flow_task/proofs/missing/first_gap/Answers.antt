@@ -1,6 +1,6 @@
 use Rattle.std.proofs.Common.{rules, ◌≡◌, ℕ, ◌+◌, ◌-◌, length, map, sym, ◌∙◌, subst, arith}
 use Rattle.std.proofs.lemmas.List.{get_or_default}
-use Rattle.flow_lists.specs.Lists.{numbers_from}
+use Rattle.flow_link.specs.Lists.{numbers_from}
 use Rattle.flow_task.specs.Absent.{AllDiffer, HasAll, IsGap}
 use Rattle.flow_task.proofs.Gaps.{Counted, counted_has, gap_here, gap_after, none_after, told_none, told_some}
 use Rattle.flow_task.proofs.missing.first_gap.Goals as goal

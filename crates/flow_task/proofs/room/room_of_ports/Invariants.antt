@@ -1,5 +1,5 @@
 use Rattle.std.proofs.Common.{◌≡◌, ◌≤◌, [], length, map, vec_len, vec_capacity}
-use Rattle.flow_lists.specs.Lists.{below}
+use Rattle.flow_link.specs.Lists.{below}
 use Rattle.flow_block.specs.Block.{port_at}
 use Rattle.flow_task.specs.Dealt.{HasRooms}
 use Rattle.flow_task.specs.Known.{in_known}

@@ -1,7 +1,7 @@
 use Rattle.std.proofs.Common.{rules, ◌≡◌, ℕ, ◌<◌, ◌≤◌, length, get_or, List, slice_index_or, ap, sym, ◌∙◌, subst, arith, ⊎_elim}
 use Rattle.std.proofs.lemmas.List.{length-set, get_or_default}
 use Rattle.flow_link.specs.declared.trace.LinkState.{LinkState}
-use Rattle.flow_lists.proofs.PlacesTell.{element_set}
+use Rattle.flow_link.proofs.PlacesTell.{element_set}
 use Rattle.flow_wire.specs.Ends.{SourceOf, fills}
 use Rattle.flow_wire.specs.Sides.{SourceSide}
 use Rattle.flow_task.specs.Wired.{IsReady, OneMore, idle, source_side, target_side}

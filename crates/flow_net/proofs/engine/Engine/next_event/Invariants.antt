@@ -1,5 +1,5 @@
 use Rattle.std.proofs.Common.{◌≡◌}
-use Rattle.flow_apart.specs.Agendas.{spot_count}
+use Rattle.flow_moves.specs.Agendas.{spot_count}
 use Rattle.flow_net.proofs.engine.Engine.next_event.Given as goal
 
 abbrev pub invariant-loop-spot : goal.invariant-loop-spot

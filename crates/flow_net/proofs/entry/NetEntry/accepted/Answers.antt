@@ -1,7 +1,7 @@
 use Rattle.std.proofs.Common.{◌≡◌, true, List, take, ap, subst, sym, ◌∙◌}
 use Rattle.flow_value.specs.declared.value.Value.{Value}
 use Rattle.flow_link.specs.Trace.{marks_of, took_over}
-use Rattle.flow_lists.specs.Lists.{is_front}
+use Rattle.flow_link.specs.Lists.{is_front}
 use Rattle.flow_input.specs.Input.{InputState}
 use Rattle.flow_net.specs.Entries.{entry_of, entry_run}
 use Rattle.flow_net.proofs.EntriesGoOn.{entry_in, entry_there, was_taken}

@@ -1,6 +1,6 @@
 use Rattle.std.proofs.Common.{◌≡◌, ℕ, ◌+◌, ◌-◌, ◌<◌, ◌≤◌, List, length, get_or, sym, ap, ◌∙◌, subst, arith}
 use Rattle.flow_link.specs.Planned.{layout_of}
-use Rattle.flow_lists.proofs.PlacesOfNumbers.{stands_below}
+use Rattle.flow_link.proofs.PlacesOfNumbers.{stands_below}
 use Rattle.flow_core.specs.Inputs.{input_of}
 use Rattle.flow_input.specs.Input.{InputState, no_input}
 use Rattle.flow_input.specs.InputKeeps.{PostedStays}

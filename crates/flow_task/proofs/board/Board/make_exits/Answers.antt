@@ -1,7 +1,7 @@
 use Rattle.std.proofs.Common.{rules, ◌≡◌, ℕ, ◌+◌, ◌<◌, ◌++◌, ◌∷◌, [], List, length, map, get_or, sym, ap, ◌∙◌, subst, arith, length-append, append_assoc}
 use Rattle.std.specs.Vec.Iter.{into_iter_items}
 use Rattle.std.proofs.lemmas.List.{append-nil, get_or_default, map-append, nil_from_length}
-use Rattle.flow_lists.proofs.PlacesOfNumbers.{stands_below}
+use Rattle.flow_link.proofs.PlacesOfNumbers.{stands_below}
 use Rattle.flow_link.specs.Planned.{layout_of}
 use Rattle.flow_block.specs.Planned.{leads_out, links_out}
 use Rattle.flow_exit.specs.Exit.{ExitState, fresh_exit}

@@ -1,6 +1,6 @@
 use Rattle.std.proofs.Common.{◌≡◌, ◌+◌, ◌++◌, length, map, drop, vec_len, vec_capacity}
 use Rattle.std.specs.Vec.Iter.{into_iter_items}
-use Rattle.flow_lists.specs.Lists.{numbers_from}
+use Rattle.flow_link.specs.Lists.{numbers_from}
 use Rattle.flow_link.specs.Planned.{layout_of}
 use Rattle.flow_task.specs.Numbers.{entry_count, task_count}
 use Rattle.flow_task.specs.Parts.{AllExitsOf, exit_number, exit_state}

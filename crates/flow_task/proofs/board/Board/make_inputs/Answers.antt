@@ -1,7 +1,7 @@
 use Rattle.std.proofs.Common.{rules, ◌≡◌, ℕ, ◌<◌, ◌≤◌, ◌++◌, ◌∷◌, [], List, length, get_or, take, sym, ap, ◌∙◌, subst, arith, length-append, append_assoc}
 use Rattle.std.specs.Vec.Iter.{into_iter_items}
 use Rattle.std.proofs.lemmas.List.{get_or_default, length-map, take-take}
-use Rattle.flow_lists.proofs.PlacesOfNumbers.{stands_below}
+use Rattle.flow_link.proofs.PlacesOfNumbers.{stands_below}
 use Rattle.flow_link.specs.Planned.{layout_of}
 use Rattle.flow_input.specs.Input.{InputState, no_input}
 use Rattle.flow_input.specs.InputKeeps.{InputLaw}

@@ -1,8 +1,8 @@
 use Rattle.std.proofs.Common.{rules, ◌≡◌, ◌+◌, ◌++◌, ◌∷◌, [], length, map, take, sym, ap, ◌∙◌, subst, arith, length-append, append_assoc}
 use Rattle.std.specs.Vec.Iter.{into_iter_items}
 use Rattle.std.proofs.lemmas.List.{append-nil, length-map, nil_from_length, take-append-le}
-use Rattle.flow_lists.specs.Lists.{below}
-use Rattle.flow_lists.proofs.ListTests.{length_numbers}
+use Rattle.flow_link.specs.Lists.{below}
+use Rattle.flow_link.proofs.ListTests.{length_numbers}
 use Rattle.flow_link.specs.Planned.{layout_of}
 use Rattle.flow_task.specs.Numbers.{task_count, turned_count}
 use Rattle.flow_task.specs.Parts.{AllTasksOf, task_number}

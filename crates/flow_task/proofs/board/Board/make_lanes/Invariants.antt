@@ -1,6 +1,6 @@
 use Rattle.std.proofs.Common.{◌≡◌, ◌+◌, ◌++◌, length, map, take, vec_capacity}
 use Rattle.std.specs.Vec.Iter.{into_iter_items}
-use Rattle.flow_lists.specs.Lists.{below}
+use Rattle.flow_link.specs.Lists.{below}
 use Rattle.flow_link.specs.Planned.{layout_of}
 use Rattle.flow_task.specs.Numbers.{turned_count}
 use Rattle.flow_task.specs.Parts.{AllTasksOf, task_number}

@@ -1,7 +1,7 @@
 use Rattle.std.proofs.Common.{◌≡◌, ℕ, length, map, get_or, take, sym, ap, ◌∙◌, arith}
 use Rattle.std.proofs.lemmas.List.{length-map}
-use Rattle.flow_lists.specs.Lists.{below}
-use Rattle.flow_lists.proofs.ListTests.{length_numbers}
+use Rattle.flow_link.specs.Lists.{below}
+use Rattle.flow_link.proofs.ListTests.{length_numbers}
 use Rattle.flow_link.specs.Planned.{layout_of}
 use Rattle.flow_input.specs.Input.{no_input}
 use Rattle.flow_task.specs.Inputs.{input_due, links_of_inputs}

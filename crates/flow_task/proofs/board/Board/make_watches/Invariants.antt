@@ -1,5 +1,5 @@
 use Rattle.std.proofs.Common.{◌≡◌, map, vec_len, vec_capacity}
-use Rattle.flow_lists.specs.Lists.{below}
+use Rattle.flow_link.specs.Lists.{below}
 use Rattle.flow_task.specs.Parts.{AllWatchesOf, watched_block}
 use Rattle.flow_task.proofs.board.Board.make_watches.Given as goal
 

@@ -1,7 +1,7 @@
 use Rattle.std.proofs.Common.{rules, ◌≡◌, ℕ, ◌+◌, ◌<◌, Bool, [], cond, drop, get_or, not, true, false, length, sym, ap, ◌∙◌, subst, arith}
 use Rattle.std.proofs.lemmas.List.{get_or_default, length-map}
-use Rattle.flow_lists.proofs.ListTests.{length_numbers}
-use Rattle.flow_lists.proofs.PlacesOfNumbers.{place_below, stands_below}
+use Rattle.flow_link.proofs.ListTests.{length_numbers}
+use Rattle.flow_link.proofs.PlacesOfNumbers.{place_below, stands_below}
 use Rattle.flow_link.specs.Planned.{layout_of}
 use Rattle.flow_core.specs.Inputs.{input_of}
 use Rattle.flow_input.specs.Input.{InputState}

@@ -1,6 +1,6 @@
 use Rattle.std.proofs.Common.{ℕ, [], List, length, map, get_or, vec_capacity, sym, ap, ◌∙◌, arith, subst}
 use Rattle.atomic_table.specs.Seated.{TableId}
-use Rattle.flow_lists.specs.Lists.{below}
+use Rattle.flow_link.specs.Lists.{below}
 use Rattle.flow_link.specs.declared.plan.Plan.{Plan}
 use Rattle.flow_link.specs.Planned.{layout_of}
 use Rattle.flow_block.specs.Node.{NodeState}
@@ -21,7 +21,7 @@ use Rattle.flow_task.proofs.EndsByPlace.{all_exits, all_inputs, all_ins, all_out
 use Rattle.flow_task.proofs.Fills.{ins_none, ins_roomy, outs_roomy, sources_due, targets_due}
 use Rattle.flow_task.proofs.Places.{count_is}
 use Rattle.flow_input.specs.InputKeeps.{InputLaw}
-use Rattle.flow_apart.specs.Apart.{apart_in}
+use Rattle.flow_moves.specs.Apart.{apart_in}
 use Rattle.flow_task.proofs.InputsStayed.{none_posts}
 use Rattle.flow_task.proofs.frame.Frame.fill.Goals as goal
 

@@ -1,5 +1,5 @@
 use Rattle.std.proofs.Common.{[], List, length, map, get_or, vec_capacity, ap, ◌∙◌, subst, arith}
-use Rattle.flow_lists.specs.Lists.{below}
+use Rattle.flow_link.specs.Lists.{below}
 use Rattle.flow_block.specs.Node.{NodeState}
 use Rattle.flow_core.specs.MovesFit.{in_count, out_count}
 use Rattle.flow_core.specs.State.{no_node}

@@ -1,4 +1,4 @@
-use Rattle.flow_apart.specs.Sights.{sight_of}
+use Rattle.flow_moves.specs.Sights.{sight_of}
 use Rattle.flow_task.specs.At.{over_goes_further}
 use Rattle.flow_task.proofs.numbered.Exit.try_receive.Goals as goal
 

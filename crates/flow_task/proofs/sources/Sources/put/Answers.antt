@@ -1,6 +1,6 @@
 use Rattle.std.proofs.Common.{rules, ◌≡◌, List, length, map, slice_index_or, vec_capacity, sym, ap, ◌∙◌, arith}
 use Rattle.std.proofs.lemmas.List.{length-map}
-use Rattle.flow_lists.proofs.PlacesOfNumbers.{place_below}
+use Rattle.flow_link.proofs.PlacesOfNumbers.{place_below}
 use Rattle.flow_wire.specs.Ends.{SourceOf}
 use Rattle.flow_link.specs.declared.plan.Link.{Link}
 use Rattle.flow_link.specs.Plan.{no_link}

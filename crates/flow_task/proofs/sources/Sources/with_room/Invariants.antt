@@ -1,5 +1,5 @@
 use Rattle.std.proofs.Common.{◌≡◌, ◌≤◌, [], length, map, get_or, vec_len, vec_capacity}
-use Rattle.flow_lists.specs.Lists.{below}
+use Rattle.flow_link.specs.Lists.{below}
 use Rattle.flow_core.specs.MovesFit.{out_count}
 use Rattle.flow_core.specs.State.{no_node}
 use Rattle.flow_task.specs.Dealt.{HasRooms}

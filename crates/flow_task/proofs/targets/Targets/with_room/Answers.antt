@@ -1,5 +1,5 @@
 use Rattle.std.proofs.Common.{rules, ◌≡◌, ◌<◌, [], length, map, get_or, vec_capacity, sym, ap, ◌∙◌, subst, arith}
-use Rattle.flow_lists.specs.Lists.{below}
+use Rattle.flow_link.specs.Lists.{below}
 use Rattle.flow_block.specs.Block.{BlockState, port_at}
 use Rattle.flow_block.specs.Node.{NodeState}
 use Rattle.flow_core.specs.MovesFit.{in_count}

@@ -1,5 +1,5 @@
 use Rattle.std.proofs.Common.{◌≡◌, Bool, ◌&&◌, length, ap, sym, ◌∙◌, arith}
-use Rattle.flow_lists.proofs.ListTests.{every_below}
+use Rattle.flow_link.proofs.ListTests.{every_below}
 use Rattle.flow_block.specs.Block.{BlockState}
 use Rattle.flow_task.specs.Turns.{are_outs_over, is_port_over}
 use Rattle.flow_task.proofs.AllOver.{fails_below}

@@ -1,5 +1,5 @@
 use Rattle.std.proofs.Common.{rules, ◌≡◌, ◌<◌, false, cond, length, sym, subst, arith, ℕ, true, below_more}
-use Rattle.flow_lists.proofs.ListTests.{every_below}
+use Rattle.flow_link.proofs.ListTests.{every_below}
 use Rattle.flow_link.specs.Plan.{is_one_taker}
 use Rattle.flow_link.specs.Planned.{layout_of}
 use Rattle.flow_outlet.specs.End.{is_over}

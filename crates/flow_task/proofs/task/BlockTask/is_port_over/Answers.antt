@@ -1,5 +1,5 @@
 use Rattle.std.proofs.Common.{rules, ◌≡◌, false, length, ap, sym, ◌∙◌, arith}
-use Rattle.flow_lists.proofs.ListTests.{every_below}
+use Rattle.flow_link.proofs.ListTests.{every_below}
 use Rattle.flow_intake.specs.Port.{stage_at}
 use Rattle.flow_block.specs.Block.{BlockState, port_at}
 use Rattle.flow_core.specs.MovesFit.{in_count}

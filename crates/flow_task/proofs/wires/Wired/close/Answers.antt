@@ -4,7 +4,7 @@ use Rattle.std.proofs.lemmas.List.{length-set, get_or-set_same}
 use Rattle.atomic_table.specs.Seated.{TableId}
 use Rattle.flow_link.specs.declared.trace.LinkState.{LinkState}
 use Rattle.flow_link.specs.LinkOk.{LinkOk}
-use Rattle.flow_lists.proofs.PlacesTell.{element_set}
+use Rattle.flow_link.proofs.PlacesTell.{element_set}
 use Rattle.flow_wire.specs.Ends.{SourceOf, TargetOf, fills}
 use Rattle.flow_task.specs.Wired.{AreSeated, idle}
 use Rattle.flow_task.proofs.WiresTell.{one_less, left_is, last_is, source_count, target_count}

@@ -2,7 +2,7 @@
 use Rattle.std.proofs.Common.{◌≡◌, ℕ, zero, suc, ◌+◌, ◌<◌, Bool, true, false, ◌&&◌, ◌||◌, List, [], ◌∷◌, length, Some, None, get_or, refl, ap, sym, ◌∙◌, arith}
 use Rattle.std.specs.List.{list_all, list_any, find, position, position_from}
 use Rattle.std.proofs.lemmas.Iterator.Adapters.{position_from-zero}
-use Rattle.flow_lists.specs.Lists.{every, some, numbers_from, below}
+use Rattle.flow_link.specs.Lists.{every, some, numbers_from, below}
 
 pub all_is_every : {A : Type 0} (test : A → Bool) (xs : List A) → list_all test xs ≡ every test xs
 all_is_every test [] = refl

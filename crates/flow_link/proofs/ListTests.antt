@@ -5,7 +5,7 @@ use Rattle.std.proofs.lemmas.List.{length-append}
 use Rattle.std.proofs.Math.Seq.{take-append_seam}
 use Rattle.flow_value.specs.declared.value.Value.{Value}
 use Rattle.flow_value.specs.Same.{same_value, same_value-Decides}
-use Rattle.flow_lists.specs.Lists.{every, some, is_empty, numbers_from, below, same_values, is_front}
+use Rattle.flow_link.specs.Lists.{every, some, is_empty, numbers_from, below, same_values, is_front}
 
 -- a test does not both pass and fail
 pub never_both : {P : Type 0} (b : Bool) → b ≡ true → b ≡ false → P

@@ -2,7 +2,7 @@
 use Rattle.flow_link.specs.Layout.{Layout}
 use Rattle.flow_link.specs.Planned.{layout_of}
 use Rattle.flow_core.specs.State.{NetState}
-use Rattle.flow_apart.specs.declared.parts.NetParts.{NetParts}
+use Rattle.flow_moves.specs.declared.apart.NetParts.{NetParts}
 
 abbrev pub apart_layout : {W : Type 0} → NetParts W → Layout W
 apart_layout apart = layout_of apart.plan

@@ -1,7 +1,7 @@
 //! A network taken apart.
 ghost use Rattle.std.specs.Prelude.{◌≡◌, map, length};
 ghost use Rattle.flow_link.specs.Planned.{layout_of};
-ghost use Rattle.flow_lists.specs.Lists.{below};
+ghost use Rattle.flow_link.specs.Lists.{below};
 ghost use Rattle.flow_block.specs.Routes.{route_of};
 
 use crate::agenda::Agenda;

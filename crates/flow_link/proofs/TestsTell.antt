@@ -1,8 +1,8 @@
 -- What tests of lists and of options tell, and what a change of elements leaves of them.
 use Rattle.std.proofs.Common.{◌≡◌, ℕ, zero, suc, ◌<◌, Bool, true, false, ◌&&◌, ◌||◌, List, [], ◌∷◌, ◌++◌, length, set, map, get_or, Option, Some, None, is_some, is_none, refl, ap, arith}
 use Rattle.std.proofs.lemmas.Bool.{and_from, and_parts, or_left, or_right}
-use Rattle.flow_lists.specs.Lists.{every, some}
-use Rattle.flow_lists.proofs.ListTests.{or_weaker}
+use Rattle.flow_link.specs.Lists.{every, some}
+use Rattle.flow_link.proofs.ListTests.{or_weaker}
 
 -- What a test of a list tells of its elements
 

@@ -3,9 +3,9 @@
 ghost use Rattle.std.specs.Prelude.{◌≡◌, ◌<◌, IfSome, length};
 
 use crate::next::{link_in_front, link_to_consume, link_to_offer};
+use crate::parts::Parts;
 use flow_block::{Block, Route};
 use flow_link::{LinkId, LinkSource, LinkTarget, Move};
-use flow_moves::Parts;
 use std::alloc::{AllocError, Global};
 
 /// A link or a block.
@@ -27,7 +27,7 @@ pub struct Agenda {
 }
 
 impl Agenda {
-    ghost use Rattle.flow_apart.specs.Agendas.{spot_count};
+    ghost use Rattle.flow_moves.specs.Agendas.{spot_count};
 
     /// An agenda with all of so many links and blocks.
     pub fn new(

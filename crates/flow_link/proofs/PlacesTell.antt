@@ -5,8 +5,8 @@ use Rattle.std.specs.List.{count_by}
 use Rattle.std.proofs.lemmas.Bool.{cases_order}
 use Rattle.std.proofs.lemmas.List.{get_or-take, length-take-le, take-take}
 use Rattle.std.proofs.lemmas.List.Sums.{length-filter, sum_by_more_le}
-use Rattle.flow_lists.specs.Lists.{numbers_from, below}
-use Rattle.flow_lists.proofs.ListTests.{length_numbers}
+use Rattle.flow_link.specs.Lists.{numbers_from, below}
+use Rattle.flow_link.proofs.ListTests.{length_numbers}
 
 -- Elements that pass a test
 

@@ -1,3 +1,0 @@
-pub mod Agendas
-pub mod Apart
-pub mod Sights
