@@ -90,12 +90,6 @@ until_none (Complete p ∷ marks) = refl
 until_none (Fault number ∷ marks) = refl
 until_none (Done ∷ marks) = refl
 
-drop_all : (journal : List Mark) (place : ℕ) → length journal ≤ place → drop place journal ≡ []
-drop_all [] zero all = refl
-drop_all [] (suc place) all = refl
-drop_all (mark ∷ journal) zero all = absurd (omega (arith, all))
-drop_all (mark ∷ journal) (suc place) all = drop_all journal place (omega (arith, all))
-
 -- what is noted then
 pub record AllNoted (journal : List Mark) (from count : ℕ) (noted : List ℕ) (place : ℕ) : Type 0 where
   pub ports : noted ≡ take count (ports_in (drop from journal))

@@ -14,10 +14,10 @@ use Rattle.flow_intake.specs.Port.{PortState, count_at, is_owed, end_in, fresh_e
 use Rattle.flow_intake.specs.ByLink.{place_of}
 use Rattle.flow_outlet.specs.Outlet.{is_empty}
 use Rattle.flow_outlet.specs.declared.ends.LinkRule.{LinkRule}
-use Rattle.flow_block.specs.Block.{BlockState, port_in, has_ports, is_batched_join}
+use Rattle.flow_block.specs.Block.{BlockState, port_in, has_ports}
 use Rattle.flow_block.specs.BlockFits.{fresh_block}
 use Rattle.flow_block.specs.JournalFits.{ports_due}
-use Rattle.flow_block.specs.Planned.{room_of, port_of_plan, links_to, links_from, rule_of, lanes_of, size_of, planned_block}
+use Rattle.flow_block.specs.Planned.{room_of, port_of_plan, links_to, links_from, rule_of, lanes_of, planned_block}
 use Rattle.flow_block.specs.Traits.{port_shown, shown_over, port_into, target_over}
 
 -- What the options of a block say
@@ -34,12 +34,6 @@ sizeless : (kind : BlockKind) (size : Option ℕ) → has_work kind ≡ true →
 sizeless kind None works e = refl
 sizeless kinds.Action (Some n) works e = absurd (cc)
 sizeless _ (Some n) works e = absurd (cc)
-
-one_lane : (kind : BlockKind) (lanes : Option ℕ) → is_batched_join kind ≡ true → allows (lanes_rule kind) (is_some lanes) ≡ true
-    → unwrap_or lanes 1 ≡ 1
-one_lane kind None batched e = refl
-one_lane kinds.BatchedJoin (Some n) batched e = absurd (cc)
-one_lane _ (Some n) batched e = absurd (cc)
 
 -- each kind has a port
 some_by : (kind : BlockKind) (ports : Option ℕ) → is_in 2 3 ports ≡ true → 0 < ports_by_kind kind ports
@@ -61,9 +55,6 @@ module _ {W : Type 0} (block : BlockDef W) (fit : options_fit block ≡ true) wh
 
   no_size : has_work block.kind ≡ true → unwrap_or block.size 0 ≡ 0
   no_size works = sizeless block.kind block.size works options.1
-
-  joins_alone : is_batched_join block.kind ≡ true → unwrap_or block.lanes 1 ≡ 1
-  joins_alone batched = one_lane block.kind block.lanes batched options.0
 
   some_port : 0 < port_count block
   some_port =
@@ -152,13 +143,6 @@ module _ {W : Type 0} (layout : Layout W) (b : ℕ) where
       → fresh_block def.kind (lanes_of layout b) 0 (ports_in (port_count def)) rules ≡ planned_block layout b
   planned_work fit works =
       ap (λ (size : ℕ). fresh_block def.kind (lanes_of layout b) size (ports_in (port_count def)) rules) (sym (no_size def fit works))
-
-  pub planned_group : options_fit def ≡ true → def.kind ≡ kinds.BatchedJoin
-      → fresh_block kinds.BatchedJoin 1 (size_of layout b) (ports_in (port_count def)) rules ≡ planned_block layout b
-  planned_group fit same =
-      ap (λ (kind : BlockKind). fresh_block kind 1 (size_of layout b) (ports_in (port_count def)) rules) (sym same)
-      ∙ ap (λ (lanes : ℕ). fresh_block def.kind lanes (size_of layout b) (ports_in (port_count def)) rules)
-      (sym (joins_alone def fit (ap is_batched_join same)))
 
   -- what is made of its parts
 

@@ -100,21 +100,6 @@ module _ {ports : List PortState} {exits : OutletState} {copied : ℕ} (fits : B
   weights : weight_out exits copied ≡ room + (weight_of (groups_after exits.next exits.groups) + copied)
   weights = omega (arith, is, weight_stays exits.next exits.groups)
 
-  -- the room of what is given was given out
-  pub given_out : AllGaveOut room ports
-  given_out = all_less (weight_out exits copied) room ports (omega (arith, weights)) fits.room
-
-  -- the head is given, and its room comes back
-  pub fits_given : BlockFits (map (gives_room room) ports) (record (gives k exits) { room = 0 }) copied
-  fits_given =
-      let all = subst (λ weight. AllGaveOut weight ports) weights fits.room in
-      let kept = weight_of (groups_after exits.next exits.groups) + copied in
-      let rest : 0 + weight_of (groups_after exits.next exits.groups) + copied ≡ kept = omega arith in
-      record {
-        room = subst (λ weight. AllGaveOut weight (map (gives_room room) ports)) (sym rest) (all_back room kept ports all);
-        few = omega (arith, fits.few, weights);
-      }
-
 -- the room of a group's messages comes back beside it
 
 less_back : (capacity : Option ℕ) (waiting : List Value) (room weight count load : ℕ)
@@ -331,11 +316,3 @@ fits_copied {ports} {exits} {copied} fits now less =
       room = all_back (copied - now) (weight_out exits now) ports (subst (λ weight. AllGaveOut weight ports) is fits.room);
       few = fits.few;
     }
-
-module _ {ports : List PortState} {exits : OutletState} (fits : BlockFits ports exits 0) (port : PortState) (is : port ≡ get_or ports 0 port)
-    (alone : length ports ≡ 1) (waits : 0 < length (port_in ports 0).waiting) (now : ℕ) (one : now ≤ 1) where
-  first_is : port ≡ port_in ports 0
-  first_is = get_or_read ports 0 port (omega (arith, alone)) is (fresh_port None)
-
-  first_out : GaveOut (weight_out exits 0) (port_in ports 0)
-  first_out = out_there (weight_out exits 0) ports 0 (omega (arith, alone)) fits.room

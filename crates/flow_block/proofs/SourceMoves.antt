@@ -101,16 +101,6 @@ pub copy_offered : {E : Type 0} (block : BlockState) → shares block ≡ false 
 copy_offered block is (Err _) new named done = tt
 copy_offered block is (Ok offer) new named done = rw (named, done) (copy_offers block is)
 
--- nothing changes where nothing is offered
-pub no_head : (block : BlockState) (place : Option ℕ) → named_at block.exits place ≡ None
-    → record block { exits = offers_at block.exits place } ≡ block
-no_head block None e = refl
-no_head block (Some k) e = absurd (cc)
-
-pub no_copy : (block : BlockState) (place : Option ℕ) → copy_named block.copies place ≡ None → offers_copy_at place block ≡ block
-no_copy block None e = refl
-no_copy block (Some k) e = absurd (cc)
-
 -- The answer to an offer
 
 pub head_answers : (block : BlockState) (link header : ℕ) → shares block ≡ true → source_at block link ≡ Out header → (status : MessageStatus)

@@ -3,7 +3,7 @@ use Rattle.std.proofs.Common.{◌≡◌, ℕ, ◌<◌, Bool, true, false, List, 
 use Rattle.flow_value.specs.declared.value.Value.{Value}
 use Rattle.flow_link.specs.Layout.{Layout}
 use Rattle.flow_link.specs.Plan.{is_one_taker}
-use Rattle.flow_spread.specs.Spread.{SpreadState, fresh_spread, is_at_rest}
+use Rattle.flow_spread.specs.Spread.{SpreadState, fresh_spread}
 use Rattle.flow_block.specs.Copies.{copies_left}
 use Rattle.flow_block.specs.Node.{NodeState, left_in, out_view, source_view}
 use Rattle.flow_block_law.specs.NodeLaw.{NodeLaw}
@@ -12,9 +12,6 @@ module _ {W : Type 0} (layout : Layout W) (meaning : ℕ → Value → Result (L
     (law : NodeLaw layout meaning b node) (shares : is_one_taker node.block.kind ≡ true) where
   pub copies_idle : node.block.copies ≡ fresh_spread false [] 1
   copies_idle = law.copies.idle shares
-
-  pub copies_rest : is_at_rest node.block.copies ≡ true
-  copies_rest = ap is_at_rest copies_idle
 
   pub none_copied : copies_left node.block.copies ≡ 0
   none_copied = ap copies_left copies_idle

@@ -38,7 +38,6 @@ use Rattle.flow_spread.proofs.CountsOfEnds.{none_there}
 use Rattle.flow_spread.proofs.LawKept.{law_tells, admits_some}
 use Rattle.flow_spread.proofs.StagesTell.{or_second}
 use Rattle.flow_block.specs.Block.{BlockState, port_at}
-use Rattle.flow_block_law.specs.Copier.{Copier}
 use Rattle.flow_block.specs.Copies.{copies_left}
 use Rattle.flow_block_law.specs.CopiesSeen.{IsCopierOf, PutsAtOnce, CopierSeen, CopiersAreParts}
 use Rattle.flow_block.specs.Node.{NodeState, left_in}
@@ -108,14 +107,8 @@ module _ {W : Type 0} (run : Run W) (ends : ℕ → Ends) (b : ℕ) (node : Node
   abbrev pub copies : SpreadState
   copies = node.block.copies
 
-  abbrev pub copier : Copier run.layout b node.block node.journal
-  copier = part.law
-
   abbrev pub elements : List Value
   elements = put_elements run.layout b node.block node.journal part.law
-
-  abbrev pub place_of : ℕ → ℕ
-  place_of l = out_place run.layout b l
 
   abbrev pub seen : Run W
   seen = as_seen run ends

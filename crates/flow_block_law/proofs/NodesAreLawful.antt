@@ -34,7 +34,7 @@ use Rattle.flow_block.specs.Block.{port_at, is_join, port_in, is_batched_join}
 use Rattle.flow_block.specs.Node.{NodeState, in_view}
 use Rattle.flow_block_law.specs.NodeLaw.{NodeLaw, RefusesFor as RefusesBy, is_fault_seen, have_completed, has_its_message}
 use Rattle.flow_block_law.specs.NodeSeen.{IsNodeOf, NodesAreLawful, EachMayCarry}
-use Rattle.flow_block.specs.Planned.{out_place, in_place}
+use Rattle.flow_block.specs.Planned.{in_place}
 use Rattle.flow_block_law.specs.CopiesSeen.{CopierSeen}
 use Rattle.flow_block_law.proofs.CopierOf.{copier_seen, makes_copies}
 use Rattle.flow_block_law.proofs.EndsTell.{refusal_told, coming_told, completion_told, fault_told}
@@ -94,9 +94,6 @@ module _ {W : Type 0} (run : Run W) (ends : ℕ → Ends) (b : ℕ) (node : Node
 
   abbrev end_into : ℕ → ℕ → EndState
   end_into p k = end_in k (ends_of p)
-
-  abbrev place_of : ℕ → ℕ
-  place_of l = out_place run.layout b l
 
   -- the links over which completion, or a fault, is seen to come
   abbrev completes_over : ℕ → ℕ → Bool

@@ -52,11 +52,6 @@ by_itself k port (target.Arrived i) = refl
 by_itself k port (target.Hand i) = refl
 by_itself k port _ = refl
 
--- what waits at an end that has no move of its own waits at an open port
-record IsWish (wish : Move) (k : ℕ) (port : PortState) (other : Option Move) : Type 0 where
-  none : in_move k port ≡ None
-  round : other ≡ Some wish
-
 wish_of : (wish : Move) (own other : Option Move) → is_wish (Some wish) ≡ true → is_wish own ≡ false → or_else own other ≡ Some wish
     → (own ≡ None) × (other ≡ Some wish)
 wish_of wish (Some next) other is none e = absurd (let wrong : true ≡ false = sym is ∙ sym (ap is_wish e) ∙ none in cc)

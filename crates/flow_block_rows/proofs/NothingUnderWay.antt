@@ -1,8 +1,7 @@
 -- Where no offer is out over a link, and none waits there; and that no offer comes to be out where a link goes elsewhere.
-use Rattle.std.proofs.Common.{◌≡◌, ◌≢◌, ℕ, ◌<◌, ◌==◌, ltb, Bool, true, false, ◌&&◌, cond, length, refl, ap, sym, ◌∙◌, subst, eqb-true, eq-eqb, ne_eqb}
+use Rattle.std.proofs.Common.{◌≡◌, ◌≢◌, ℕ, ◌<◌, ◌==◌, ltb, Bool, true, false, ◌&&◌, cond, length, refl, eqb-true, ne_eqb}
 use Rattle.std.proofs.lemmas.Bool.{and_parts, ltb-true}
-use Rattle.flow_link.specs.SourceCalls.{NothingOut, is_under_way, GoesOut, MayReserve}
-use Rattle.flow_link.specs.StagesMove.{MovesBy, MovesTo}
+use Rattle.flow_link.specs.SourceCalls.{NothingOut, is_under_way}
 use Rattle.flow_link.specs.declared.stage.SourceStage.{SourceStage}
 use Rattle.flow_link.specs.declared.stage.SourceStage.TheVariants as source
 use Rattle.flow_outlet.specs.End.{is_away, count_at}
@@ -53,24 +52,3 @@ rests_tell block exits copies = by (shares block)
     by true = over_exits block.exits exits
     by false = over_copies block.copies copies
 
--- a link that comes to stand elsewhere, where no offer is out
-pub none_out_after : (stage : SourceStage) (link : ℕ) (old new : ℕ → SourceStage) → is_under_way stage ≡ false → MovesTo stage link old new
-    → NothingOut old → NothingOut new
-none_out_after stage link old new none moves nothing other = at (other == link) refl
-  where
-    at : (same : Bool) → (other == link) ≡ same → is_under_way (new other) ≡ false
-    at true is = ap is_under_way (ap new (eqb-true other link is) ∙ moves.here) ∙ none
-    at false is =
-        ap is_under_way (moves.elsewhere other (λ e. let wrong : (other == link) ≡ true = eq-eqb other link e in cc)) ∙ nothing other
-
--- an offer that is put off
-pub put_off_moves : (link header : ℕ) (old out new : ℕ → SourceStage) → MovesBy (GoesOut header) link old out
-    → MovesTo (source.Waiting header) link out new → MovesTo (source.Waiting header) link old new
-put_off_moves link header old out new offered answered = record {
-  here = answered.here;
-  elsewhere = λ other apart. answered.elsewhere other apart ∙ offered.elsewhere other apart;
-}
-
--- what a link put off may be kept for it, while no offer is out
-pub may_reserve : (header : ℕ) (busy : Bool) (stage : SourceStage) → stage ≡ source.Waiting header → busy ≡ false → MayReserve header busy stage
-may_reserve header busy stage is rests = subst (λ (s : SourceStage). MayReserve header busy s) (sym is) (refl, rests)

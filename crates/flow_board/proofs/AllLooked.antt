@@ -1,9 +1,7 @@
 -- What becomes of the inputs and the exits of a network when the ends of its links look.
 use Rattle.std.proofs.Math.Seq.{map-set_same}
 use Rattle.std.proofs.Common.{◌≡◌, ℕ, zero, suc, List, get_or, Some, Result, refl, sym, ap, ◌∙◌, subst}
-use Rattle.std.specs.Coded.{codes}
 use Rattle.flow_value.specs.declared.value.Value.{Value}
-use Rattle.flow_value.specs.contracts.value.Value as content
 use Rattle.flow_link.proofs.PlacesTell.{element_set}
 use Rattle.flow_link.specs.declared.phase.Phase.{Phase}
 use Rattle.flow_link.specs.declared.plan.LinkSource.{LinkSource}
@@ -25,7 +23,6 @@ use Rattle.flow_input.specs.Sends.{sends_of}
 use Rattle.flow_input.proofs.InputsMove.{inputs_keep}
 use Rattle.flow_input.proofs.PostedKept.{posted_is_kept}
 use Rattle.flow_input.proofs.TellsMay.{inputs_tell}
-use Rattle.flow_poll.specs.Sends.{SendView}
 use Rattle.flow_task.specs.Events.{HasLooked, InputLooks, LooksBy}
 use Rattle.flow_task.proofs.InputTells.{look_gives_nothing}
 use Rattle.flow_task.proofs.TurnsHappen.{looks_further, one_look, stays, stays_so}
@@ -62,9 +59,6 @@ module _ {W : Type 0} (layout : Layout W) (meaning : ℕ → Value → Result (L
       (input_looked n net q) (one_link n mid q)
 
 -- What looks leave of an input
-
-Views-set : IsSet SendView
-Views-set = Prim.hlevel (codes, content.the_row.coded)
 
 -- it is in order, its caller sees the same, and nothing was given
 pub record LooksLeave (old new : InputState) : Type 0 where

@@ -1,6 +1,6 @@
 -- Where all of a network is in order, whenever the ends of its links looked, a look of all of them leaves it in order, and each end
 -- aware of its link. It writes no mark.
-use Rattle.std.proofs.Common.{◌≡◌, ℕ, zero, suc, ◌<◌, ◌≤◌, ◌⊎◌, Bool, true, false, cond, List, length, map, get_or, set, Option, Some, Result, refl, ap, sym, ◌∙◌, subst, arith, ⊎_elim}
+use Rattle.std.proofs.Common.{◌≡◌, ℕ, zero, suc, ◌<◌, ◌≤◌, ◌⊎◌, Bool, true, false, cond, List, length, get_or, Some, Result, refl, ap, sym, ◌∙◌, subst, arith, ⊎_elim}
 use Rattle.std.proofs.lemmas.Bool.Decides.{eqb_tells}
 use Rattle.std.proofs.Math.Seq.{map-set_same}
 use Rattle.std.proofs.Math.Nat.{eq-or-lt_of_le}
@@ -22,7 +22,7 @@ use Rattle.flow_input.specs.InputKeeps.{InputsKeep}
 use Rattle.flow_block.specs.Node.{NodeState, NodeCall}
 use Rattle.flow_block.specs.Copies.{CopyCall}
 use Rattle.flow_block_law.specs.NodeKeeps.{NodesKept}
-use Rattle.flow_block.specs.Planned.{in_place, out_place}
+use Rattle.flow_block.specs.Planned.{out_place}
 use Rattle.flow_block_law.specs.ViewsMove.{CallsMoveViews}
 use Rattle.flow_input.proofs.InputsMove.{inputs_keep}
 use Rattle.flow_block_law.proofs.NodesKept.{nodes_kept}

@@ -23,7 +23,6 @@ pub mod LinesKeep
 pub mod NetworksInOrder
 pub mod NextIsAllowed
 pub mod NodesStep
-pub mod OneProof
 pub mod PartsChange
 pub mod PlacesOfLinks
 pub mod PlacesRule

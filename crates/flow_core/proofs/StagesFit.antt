@@ -1,5 +1,5 @@
 -- What the tests of the stages at which an end moves tell, and that a stage stands so in the model where it does in the program.
-use Rattle.std.proofs.Common.{◌≡◌, ◌⊎◌, ℕ, ◌==◌, not, Bool, true, Option, Some, is_some, refl, sym, inl, inr, eqb-true}
+use Rattle.std.proofs.Common.{◌≡◌, ◌⊎◌, ℕ, ◌==◌, not, Bool, true, Option, is_some, refl, sym, inl, inr, eqb-true}
 use Rattle.std.proofs.lemmas.Bool.{and_parts}
 use Rattle.flow_value.specs.declared.value.Value.{Value}
 use Rattle.flow_link.specs.declared.stage.SourceStage.{SourceStage as SourceKept}
@@ -53,11 +53,6 @@ module _ {V : Type 0} where
   to_answer_is (TargetStage.offered i) e = inl refl
   to_answer_is (TargetStage.posted i) e = inr refl
   to_answer_is _ e = absurd (cc)
-
-  pub answers_message : (stage : TargetStage V) → is_some (to_answer stage) ≡ true → to_answer stage ≡ Some (message_in stage)
-  answers_message (TargetStage.offered i) e = refl
-  answers_message (TargetStage.posted i) e = refl
-  answers_message _ e = absurd (cc)
 
   pub offered_is : (stage : TargetStage V) → is_offered stage ≡ true → stage ≡ TargetStage.offered (message_in stage)
   offered_is (TargetStage.offered i) e = refl

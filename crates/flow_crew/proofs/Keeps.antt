@@ -56,13 +56,6 @@ total_none h (z ∷ vs) idle nil =
     let rest = total_none h vs (λ j u e. idle (suc j) u e) (omega arith) in
     omega arith
 
-begins_idle : (all : List ℕ) → IdleIsEmpty (hand 64 all ∷ [])
-begins_idle all zero u e nil = let is : 64 ≡ u.parts = ap (λ (y : Hand). y.parts) (some-is (hand 64 all) u e) in absurd (omega arith)
-begins_idle all (suc j) u e nil = absurd (some-ne-none u (sym e))
-
-pub begins : (all : List ℕ) → Balanced all [] (hand 64 all ∷ [])
-begins all = (refl, (λ h. omega arith), begins_idle all)
-
 pub learns_room : (all : List ℕ) (port : ℕ) (v : Hand) → Learns (Balanced all) port v (HasRoom all v)
 learns_room all port v items views b at =
     let t = total_at (λ u. weigh (λ _. 1) u.holds) views port v at in

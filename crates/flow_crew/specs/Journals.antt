@@ -1,5 +1,5 @@
 -- Journals that go on, by the numbers of their tasks.
-use Rattle.std.specs.Prelude.{◌≡◌, ℕ, ◌==◌, false, if◌then◌else◌, List, [], ◌∷◌}
+use Rattle.std.specs.Prelude.{ℕ, ◌==◌, if◌then◌else◌, List, [], ◌∷◌}
 use Rattle.flow_link.specs.declared.trace.Mark.{Mark}
 use Rattle.flow_poll.specs.Turns.{Extends}
 use Rattle.flow_board.specs.Parts.{marks_in, task_number}
@@ -13,20 +13,6 @@ EachBegins begun (one ∷ more) = Extends (begun one.0) one.1 × EachBegins begu
 -- whatever is named for the numbers with which all of these journals begin, this one begins with what is named for its number
 abbrev pub GoesOn : List (ℕ × List Mark) → ℕ → List Mark → Type 0
 GoesOn came number journal = (begun : ℕ → List Mark) → EachBegins begun came → Extends (begun number) journal
-
--- no number comes twice
-abbrev pub IsNotAmong : ℕ → List (ℕ × List Mark) → Type 0
-IsNotAmong number [] = Unit {0}
-IsNotAmong number (one ∷ more) = ((number == one.0) ≡ false) × IsNotAmong number more
-
-abbrev pub NoneTwice : List (ℕ × List Mark) → Type 0
-NoneTwice [] = Unit {0}
-NoneTwice (one ∷ more) = IsNotAmong one.0 more × NoneTwice more
-
--- the journal that stands there for a number, if one does
-abbrev pub journal_at : List (ℕ × List Mark) → ℕ → List Mark
-journal_at [] number = []
-journal_at (one ∷ more) number = if one.0 == number then one.1 else journal_at more number
 
 module _ {W : Type 0} {w : _} {e : _} where
   -- the number of each task, with its journal

@@ -34,11 +34,6 @@ asked_coming (Asking i) e = refl
 asked_coming (Holding i) e = refl
 asked_coming stage e = absurd (cc)
 
-asked_waits : (stage : TargetStage) → is_asked stage ≡ true → is_postponed stage ≡ true → ⊥
-asked_waits (Asking i) e waits = cc
-asked_waits (Holding i) e waits = cc
-asked_waits stage e waits = cc
-
 front_coming : (port : PortState) (place : Option ℕ) → is_asked (stage_from place port) ≡ true → 1 ≤ coming port
 front_coming port None e = absurd (cc)
 front_coming port (Some j) e =

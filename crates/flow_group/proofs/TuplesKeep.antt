@@ -13,9 +13,6 @@ use Rattle.flow_intake.specs.Calls.{takes, takes_next}
 use Rattle.flow_group.specs.Tuple.{held_at, has_first, has_tuple, first_at, tuple_of, takes_tuple}
 use Rattle.flow_group.specs.Tuples.{TuplesLaw, TuplesKept, NoTupleIsTorn, Call, Course, IsAllowed, AllAllowed, after, after_all, only_at, taken_by, taken_in}
 
-none : Value
-none = Int (pos 0)
-
 -- the tuple has a message for each port
 tuple_wide : (count : ℕ) (ports : List PortState) → length ports ≡ count → is_row count (tuple_of ports) ≡ true
 tuple_wide count ports e =

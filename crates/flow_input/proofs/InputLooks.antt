@@ -68,10 +68,6 @@ down_free (Posted i) Idle e = refl
 down_free (Posted i) _ e = absurd (cc)
 down_free _ phase e = absurd (cc)
 
-pub posted_away : (stage : SourceStage) → is_posted stage ≡ true → is_free stage ≡ true → ⊥
-posted_away (Posted i) e f = cc
-posted_away _ e f = absurd (cc)
-
 pub free_waits : (stage : SourceStage) → is_free stage ≡ true → goes_at_once stage ≡ true → ⊥
 free_waits Free f e = cc
 free_waits _ f e = absurd (cc)

@@ -13,9 +13,6 @@ use Rattle.flow_input.specs.InputKeeps.{InputLaw, IsIdle}
 use Rattle.flow_input.specs.Sends.{after_told, is_idle, sends_of, told_next}
 use Rattle.flow_input.proofs.TellsMay.{inputs_tell}
 
-Values-set : IsSet (List Value)
-Values-set = hlevel (codes, content.the_row.coded)
-
 Options-set : IsSet (Option Value)
 Options-set = hlevel (codes, content.the_row.coded)
 

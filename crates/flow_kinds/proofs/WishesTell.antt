@@ -252,11 +252,6 @@ wish_moves join = by_wish (λ told later. Wishes told (target_over join.block.po
       ),
     ))
 
--- where it wishes nothing, nothing changes
-pub nothing_wished : (join : ReservingState) → next_wish join ≡ wish.None → after_wish join ≡ join
-nothing_wished join = by_wish (λ told later. told ≡ wish.None → later ≡ join) join (λ _. refl)
-    (λ failing p is wishing. (λ ask e. absurd (cc), (λ claim e. absurd (cc), λ release e. absurd (cc))))
-
 pub wish_stopped : (join : ReservingState) → (after_wish join).block.stopped ≡ join.block.stopped
 wish_stopped join = by_wish (λ told later. later.block.stopped ≡ join.block.stopped) join refl
     (λ failing p is wishing. (λ ask. refl, (λ claim. refl, λ release. refl)))

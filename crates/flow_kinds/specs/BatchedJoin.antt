@@ -33,9 +33,6 @@ pub record JoinFits (block : BlockState) (order : ArrivalsState) : Type 0 where
 abbrev pub fresh_join : ℕ → List PortState → List LinkRule → JoinState
 fresh_join size ports rules = record { block = fresh_block kind.BatchedJoin 1 size ports rules; order = [] }
 
-abbrev pub with_block : BlockState → JoinState → JoinState
-with_block block join = record join { block = block }
-
 -- a batched join of a plan, to which no message came
 abbrev pub planned_join : {W : Type 0} → Layout W → ℕ → JoinState
 planned_join layout b = record { block = planned_block layout b; order = [] }

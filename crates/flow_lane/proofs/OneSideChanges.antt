@@ -6,7 +6,7 @@ use Rattle.std.proofs.lemmas.Bool.{cases_eq}
 use Rattle.std.proofs.lemmas.List.{get_or_default, get_or-set_same, get_or-set_other}
 use Rattle.flow_lane.specs.declared.phase.LanePhase.{LanePhase}
 use Rattle.flow_lane.specs.declared.phase.LanePhase.TheVariants.{Result}
-use Rattle.flow_lane.specs.BlockLanes.{LanesState, changed, no_side, side_in, tables_of, ticket_at, with_side}
+use Rattle.flow_lane.specs.BlockLanes.{changed, no_side, side_in, tables_of, ticket_at}
 use Rattle.flow_lane.specs.Items.{JobState}
 use Rattle.flow_lane.specs.Sides.{BlockOf, block_finds}
 use Rattle.flow_lane.specs.Views.{BlockStage, BlockView, is_free, is_ready, is_sent}
@@ -55,14 +55,6 @@ module _ {W : Type 0} where
 
       pub tables_now : next.table ≡ (side_in sides place).table → tables_of (set sides place next) ≡ tables_of sides
       tables_now same = map-set_same (λ (s : BlockOf (JobState W)). s.table) sides place next no_side same
-
-    -- all that contracts see
-    pub side_set : (change : BlockView (JobState W) → BlockView (JobState W)) (side next : BlockOf (JobState W)) (kept : Option ℕ) (lanes : LanesState W)
-        → side ≡ get_or sides place side → next ≡ changed change side
-        → record { sides = sides; kept = kept } ≡ lanes → record { sides = set sides place next; kept = kept } ≡ with_side place change lanes
-    side_set change side next kept lanes at is seen =
-        ap (λ (s : BlockOf (JobState W)). record { sides = set sides place s; kept = kept }) (is ∙ ap (changed change) (here_is side at))
-        ∙ ap (with_side place change) seen
 
     pub same_table : (change : BlockView (JobState W) → BlockView (JobState W)) (side next : BlockOf (JobState W)) → side ≡ get_or sides place side → next ≡ changed change side
         → next.table ≡ (side_in sides place).table

@@ -5,9 +5,9 @@ use Rattle.flow_lane.specs.declared.phase.LanePhase.{LanePhase}
 use Rattle.flow_lane.specs.declared.phase.LanePhase.TheVariants.{Result}
 use Rattle.flow_lane.specs.declared.standing.Standing.{Standing}
 use Rattle.flow_lane.specs.Phase.{word_of_phase}
-use Rattle.flow_lane.specs.BlockLanes.{is_ended, ticket_at}
+use Rattle.flow_lane.specs.BlockLanes.{is_ended}
 use Rattle.flow_lane.specs.Items.{JobState, ticket_of as state_ticket}
-use Rattle.flow_lane.specs.Standing.{looked_at, number_of, standing_of, stands_ended, stands_free, stands_ready, stands_sent}
+use Rattle.flow_lane.specs.Standing.{looked_at, standing_of, stands_ended, stands_free, stands_ready, stands_sent}
 use Rattle.flow_lane.specs.Sides.{block_finds, block_looked}
 use Rattle.flow_lane.specs.Views.{BlockStage, BlockView, SeatView, block_in, is_free, is_ready, is_sent}
 use Rattle.flow_lane.proofs.WordsDiffer.{words_tell}
@@ -56,13 +56,6 @@ module _ {J S : Type 0} (ticket_of : J → ℕ) where
       (finds_is ticket_of (block_in me.0).stage p ∙ ap (option_map (λ (s : Standing). looked_at s p)) was)
 
 module _ {W : Type 0} where
-  pub ticket_is : (b : BlockStage (JobState W)) (s : Standing) → standing_of state_ticket b ≡ Some s → ticket_at b ≡ number_of s
-  ticket_is BlockStage.free s told = ap (λ (o : Option Standing). number_of (unwrap_or o s)) told
-  ticket_is BlockStage.filling s told = absurd (cc)
-  ticket_is (BlockStage.sent j) s told = ap (λ (o : Option Standing). number_of (unwrap_or o s)) told
-  ticket_is (BlockStage.ready j) s told = ap (λ (o : Option Standing). number_of (unwrap_or o s)) told
-  ticket_is (BlockStage.hand j) s told = ap (λ (o : Option Standing). number_of (unwrap_or o s)) told
-  ticket_is BlockStage.ended s told = ap (λ (o : Option Standing). number_of (unwrap_or o s)) told
 
   pub ended_is : (b : BlockStage (JobState W)) (s : Standing) → standing_of state_ticket b ≡ Some s → is_ended b ≡ stands_ended s
   ended_is BlockStage.free s told = ap (λ (o : Option Standing). stands_ended (unwrap_or o s)) told

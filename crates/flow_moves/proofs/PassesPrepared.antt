@@ -12,11 +12,9 @@ use Rattle.flow_link.specs.declared.plan.LinkTarget.TheVariants.{Port, Exit}
 use Rattle.flow_link.specs.declared.stage.SourceStage.TheVariants.{Out}
 use Rattle.flow_intake.specs.Port.{PortState, fresh_port}
 use Rattle.flow_intake.specs.Calls.{prepared, unprepared, wants, opens, looks as port_looks}
-use Rattle.flow_intake.specs.Receives.{takes_at_once}
 use Rattle.flow_block.specs.Block.{BlockState, port_at, with_port}
 use Rattle.flow_input.specs.Input.{InputState, no_input, next_id, next_value, input_sends}
 use Rattle.flow_block.specs.Node.{NodeState, given_next, with_block}
-use Rattle.flow_block_law.specs.NodeKeeps.{InAt, any_stage}
 use Rattle.flow_block.specs.Passes.{on_port, takes_hand, receives_on}
 use Rattle.flow_block.proofs.PassesOfNodes.{with_twice}
 use Rattle.flow_block.specs.declared.planned.Route.{Route}
@@ -24,12 +22,12 @@ use Rattle.flow_core.specs.Events.{with_node, with_line}
 use Rattle.flow_link.specs.declared.trace.LinkState.{LinkState}
 use Rattle.flow_core.specs.State.{NetState, node_at, no_node, fresh_line}
 use Rattle.flow_moves.specs.Passed.{node_prepared, node_offers, node_sends_ready, source_prepared, target_prepared, target_ready, forgot_by, target_forgot, sent_ready, sent_by, received_by, offered_by, passed}
-use Rattle.flow_moves.specs.Passed.{BlockMaySend, InputMaySend, MaySend, BlockMayReceive, MayReceive}
-use Rattle.flow_moves.specs.Passes.{id_in, id_next, carries, may_carry, takes_now, are_apart, offered_along}
-use Rattle.flow_moves.specs.Ready.{SourceIsThere, TargetIsThere, SourceIsReady, InputIsReady, ExitIsReady, exit_count}
+use Rattle.flow_moves.specs.Passed.{BlockMaySend, InputMaySend, MaySend}
+use Rattle.flow_moves.specs.Passes.{id_in, id_next, may_carry, takes_now, are_apart, offered_along}
+use Rattle.flow_moves.specs.Ready.{SourceIsThere, TargetIsThere, SourceIsReady, InputIsReady, exit_count}
 use Rattle.flow_moves.specs.Ways.{input_in, with_input_in, value_next, source_moved, target_looked}
 use Rattle.flow_moves.proofs.MovesPrepared.{next_is_there}
-use Rattle.flow_moves.proofs.PassesTell.{takes_port, blocks_apart}
+use Rattle.flow_moves.proofs.PassesTell.{blocks_apart}
 use Rattle.flow_moves.proofs.SendsByKind.{ready_id, ready_may_go, ready_sends, ready_offers}
 
 -- a node, or an input, changes twice
@@ -92,20 +90,6 @@ input_may input id ready = record {
 -- a port that is prepared may receive, and then it is as if it had not been
 abbrev with_room : ℕ → NodeState → NodeState
 with_room p node = with_block (with_port p prepared node.block) node
-
-room_found : (p : ℕ) (block : BlockState) → p < length block.ports → port_at p (with_port p prepared block) ≡ prepared (port_at p block)
-room_found p block there = get_or-set_same block.ports p (prepared (port_at p block)) (fresh_port None) there
-
-block_may_receive : (p k : ℕ) (node : NodeState) → InAt any_stage p k node → takes_at_once k (port_at p node.block) ≡ true
-    → BlockMayReceive (with_room p node).block p k
-block_may_receive p k node at takes =
-    let found = room_found p node.block at.port in
-    record {
-      port = rw (length-set node.block.ports p (prepared (port_at p node.block))) at.port;
-      place = subst (λ (port : PortState). k < length port.ends) (sym found) at.place;
-      takes = ap (takes_at_once k) found ∙ takes;
-      ready = ap (λ (port : PortState). port.ready) found;
-    }
 
 on_twice : (p : ℕ) (first then_on : PortState → PortState) (node : NodeState) → p < length node.block.ports
     → on_port p then_on (on_port p first node) ≡ on_port p (λ port. then_on (first port)) node
@@ -177,22 +161,6 @@ module _ (net : NetState) where
   value_still (Input b) k (Port t p) apart = refl
   value_still (Block s) k (Port t p) apart = ap given_next (node_beside t s (with_room p) net (blocks_apart s t apart))
 
-  pub carries_still : (source : LinkSource) (k : ℕ) (target : LinkTarget) → are_apart source target ≡ true
-      → may_carry (target_prepared target net) source k ≡ may_carry net source k
-  carries_still (Block s) k Exit apart = refl
-  carries_still (Input b) k Exit apart = refl
-  carries_still (Input b) k (Port t p) apart = refl
-  carries_still (Block s) k (Port t p) apart =
-      ap (λ (node : NodeState). carries k node.block) (node_beside t s (with_room p) net (blocks_apart s t apart))
-
-  pub ready_still : (id : ℕ) (source : LinkSource) (k : ℕ) (target : LinkTarget) → are_apart source target ≡ true
-      → SourceIsReady (Offer id) net source k → SourceIsReady (Offer id) (target_prepared target net) source k
-  ready_still id (Block s) k Exit apart ready = ready
-  ready_still id (Input b) k Exit apart ready = ready
-  ready_still id (Input b) k (Port t p) apart ready = ready
-  ready_still id (Block s) k (Port t p) apart ready =
-      subst (λ (node : NodeState). ExitIsReady k (Offer id) node) (sym (node_beside t s (with_room p) net (blocks_apart s t apart))) ready
-
   -- the ends may be prepared in either order
   either_order : (source : LinkSource) (k : ℕ) (target : LinkTarget) → are_apart source target ≡ true
       → source_prepared source k (target_prepared target net) ≡ target_prepared target (source_prepared source k net)
@@ -245,32 +213,6 @@ module _ (net : NetState) (id : ℕ) where
   module _ (i : ℕ) where
     abbrev sent_now : LinkSource → ℕ → LinkTarget → NetState
     sent_now source k target = sent_ready source k i (both_ready source k target)
-
-    at_target : (s k t p : ℕ) → s ≢ t → t < length net.nodes
-        → node_at (sent_now (Block s) k (Port t p)) t ≡ with_room p (node_at net t)
-    at_target s k t p apart there =
-        let other : t ≢ s = λ same. apart (sym same) in
-        let first = source_prepared (Block s) k net in
-        node_beside s t (node_sends_ready k i) (both_ready (Block s) k (Port t p)) other
-        ∙ node_found t (with_room p) first (still_there s t (node_prepared k) net there)
-        ∙ ap (with_room p) (node_beside s t (node_prepared k) net other)
-
-    pub target_may : (source : LinkSource) (k : ℕ) (target : LinkTarget) (j : ℕ) → TargetIsThere net target j
-        → takes_now net target j ≡ true → are_apart source target ≡ true
-        → MayReceive (sent_now source k target) target j
-    target_may source k Exit j there takes apart = tt
-    target_may (Input b) k (Port t p) j there takes apart = (
-      still_there t t (with_room p) net there.0,
-      subst (λ (node : NodeState). BlockMayReceive node.block p j) (sym (node_found t (with_room p) net there.0))
-          (block_may_receive p j (node_at net t) there.1 (takes_port p j (node_at net t) takes)),
-    )
-    target_may (Block s) k (Port t p) j there takes apart =
-        let first = source_prepared (Block s) k net in
-        let here = still_there s t (node_prepared k) net there.0 in (
-          still_there s t (node_sends_ready k i) (both_ready (Block s) k (Port t p)) (still_there t t (with_room p) first here),
-          subst (λ (node : NodeState). BlockMayReceive node.block p j) (sym (at_target s k t p (blocks_apart s t apart) there.0))
-              (block_may_receive p j (node_at net t) there.1 (takes_port p j (node_at net t) takes)),
-        )
 
     module _ (value : Value) (t p j : ℕ) where
       receives_here : (now : NetState) → t < length now.nodes → p < length (node_at now t).block.ports

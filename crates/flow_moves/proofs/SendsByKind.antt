@@ -89,15 +89,6 @@ module _ (k : ℕ) (node : NodeState) where
   id_ready_by false e =
       ap (λ (x : Bool). id_by x (prepared_by false k node).block) e ∙ sym (ap (λ (x : Bool). id_by x node.block) e)
 
-  abbrev value_by : Bool → NodeState → Option Value
-  value_by x n = cond x (head_of n.block.exits) n.block.copies.element
-
-  value_ready_by : (b : Bool) → is_one_taker node.block.kind ≡ b → given_next (prepared_by b k node) ≡ given_next node
-  value_ready_by true e =
-      ap (λ (x : Bool). value_by x (prepared_by true k node)) e ∙ sym (ap (λ (x : Bool). value_by x node) e)
-  value_ready_by false e =
-      ap (λ (x : Bool). value_by x (prepared_by false k node)) e ∙ sym (ap (λ (x : Bool). value_by x node) e)
-
   may_go_by : (b : Bool) (i : ℕ) → ReadyBy b k (Offer i) node → carries_by b k node.block ≡ true
       → MayGoBy b k (prepared_by b k node).block
   may_go_by true i may room =
@@ -114,9 +105,6 @@ module _ (k : ℕ) (node : NodeState) where
 
   pub ready_id : id_in (node_prepared k node).block ≡ id_in node.block
   ready_id = id_ready_by (is_one_taker node.block.kind) refl
-
-  pub ready_value : given_next (node_prepared k node) ≡ given_next node
-  ready_value = value_ready_by (is_one_taker node.block.kind) refl
 
   pub ready_may_go : (i : ℕ) → ExitIsReady k (Offer i) node → carries k node.block ≡ true
       → BlockMaySend (node_prepared k node).block k

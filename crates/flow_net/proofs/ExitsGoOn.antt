@@ -185,12 +185,6 @@ module _ {W : Type 0} (works : W → Value → Result (List Value) WorkFault) (p
   kept_received before after (Err error) done same kept =
       subst (λ (net : NetState). ∥ NetKeeps layout meaning net ∥₁) (sym same) kept
 
-  pub exit_received : (before after : NetState) (result : Result (Option Value) AllocError)
-      → OnOk result (after ≡ with_exit_in place (after_exit ExitCall.receive) before)
-      → ∥ NetKeeps layout meaning before ∥₁ → OnOk result (exit_then after ≡ after_exit ExitCall.receive (exit_then before))
-  exit_received before after (Ok value) done kept = exit_called ExitCall.receive refl before after done kept
-  exit_received before after (Err error) done kept = tt
-
   -- said by the plan that the network has after a call
   module _ (same_plan : Plan W) (same : same_plan ≡ plan) where
     pub there_looked : l < length (layout_of same_plan).links

@@ -1,5 +1,5 @@
 -- The ends of a network's links look one after another.
-use Rattle.std.proofs.Common.{◌≡◌, ℕ, suc, ◌+◌, ◌<◌, ◌≤◌, List, length, Result, ap, sym, subst, ◌∙◌, arith}
+use Rattle.std.proofs.Common.{◌≡◌, ℕ, ◌<◌, ◌≤◌, List, length, Result, sym, subst}
 use Rattle.std.proofs.Math.Logic.{∥∥₁_elim, ∥∥₁_map}
 use Rattle.flow_value.specs.declared.value.Value.{Value}
 use Rattle.flow_value.specs.declared.work.WorkFault.{WorkFault}
@@ -7,7 +7,7 @@ use Rattle.flow_link.specs.declared.plan.Plan.{Plan}
 use Rattle.flow_link.specs.Layout.{Layout}
 use Rattle.flow_link.specs.Planned.{layout_of}
 use Rattle.flow_block.specs.Routes.{route_of}
-use Rattle.flow_core.specs.InOrder.{NetInOrder, all_looked, looked_at}
+use Rattle.flow_core.specs.InOrder.{NetInOrder, all_looked}
 use Rattle.flow_core.specs.Keeps.{NetKeeps}
 use Rattle.flow_core.specs.State.{NetState}
 use Rattle.flow_core.proofs.AllLook.{all_looks_keep, some_looks_keep}
@@ -40,15 +40,6 @@ module _ {W : Type 0} (works : W → Value → Result (List Value) WorkFault) (p
         subst (λ (p : Plan W). ∥ NetInOrder (layout_of p) (works_of works (layout_of p)) now ∥₁) (sym same)
         (subst (λ (net : NetState). InOrder net) (sym is)
         (∥∥₁_map ok (λ ok. some_looks_keep layout meaning (plan_runs plan) n within start ok)))
-
-    -- one more has looked
-    pub one_more_looked : (n : ℕ) (before after : NetState) → before ≡ all_looked layout meaning n start → (same_plan : Plan W) → same_plan ≡ plan
-        → after ≡ looked_at (layout_of same_plan) (works_of works (layout_of same_plan)) n before
-        → after ≡ all_looked layout meaning (n + 1) start
-    one_more_looked n before after is same_plan same looked =
-        let next : suc n ≡ n + 1 = omega arith in
-        looked ∙ ap (λ (p : Plan W). looked_at (layout_of p) (works_of works (layout_of p)) n before) same
-        ∙ ap (looked_at layout meaning n) is ∙ ap (λ (m : ℕ). all_looked layout meaning m start) next
 
     -- and when all have, the network is in order
     pub all_aware : (now : NetState) → now ≡ all_looked layout meaning (length layout.links) start → (same_plan : Plan W) → same_plan ≡ plan

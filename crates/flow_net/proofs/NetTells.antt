@@ -1,5 +1,5 @@
 -- What a network's parts tell is what its run has.
-use Rattle.std.proofs.Common.{◌≡◌, ℕ, ◌<◌, Bool, true, false, List, [], ◌∷◌, length, get_or, Option, Some, None, Result}
+use Rattle.std.proofs.Common.{◌≡◌, ℕ, ◌<◌, Bool, true, false, List, [], ◌∷◌, length, Option, Some, None, Result}
 use Rattle.std.proofs.Common.{refl, ap, ap₂, sym, ◌∙◌, subst}
 use Rattle.std.proofs.Math.ListN.{get_or-map}
 use Rattle.std.proofs.Math.Bridge.{le_prop}
@@ -15,12 +15,9 @@ use Rattle.flow_link.specs.declared.trace.Outcome.TheVariants as outcome
 use Rattle.flow_lawful.specs.Endings.{stops, is_complete as is_run_complete}
 use Rattle.flow_link.specs.Layout.{Layout}
 use Rattle.flow_link.specs.Lists.{is_empty}
-use Rattle.flow_link.specs.Plan.{block_in, port_count, no_block}
-use Rattle.flow_link.specs.Trace.{Run, BlockTrace, InputTrace, is_done}
-use Rattle.flow_link.specs.Trace.{trace_of, marks_of, left_at, held_at, input_of}
-use Rattle.flow_intake.specs.Port.{PortState, fresh_port}
-use Rattle.flow_block.specs.Block.{port_at}
-use Rattle.flow_input.specs.Input.{no_input, input_trace}
+use Rattle.flow_link.specs.Plan.{block_in, no_block}
+use Rattle.flow_link.specs.Trace.{Run, BlockTrace, is_done}
+use Rattle.flow_link.specs.Trace.{trace_of, marks_of, left_at}
 use Rattle.flow_block.specs.Node.{left_in, node_trace}
 use Rattle.flow_block_law.specs.NodeLaw.{outcome_in, NodeLaw}
 use Rattle.flow_block.specs.Planned.{input_place}
@@ -30,7 +27,6 @@ use Rattle.flow_block_law.proofs.JournalTells.{done_marked, goes_on}
 use Rattle.flow_core.specs.Keeps.{NetKeeps}
 use Rattle.flow_core.specs.State.{NetState, no_node, node_at}
 use Rattle.flow_link.proofs.PlacesTell.{count_within}
-use Rattle.flow_moves.specs.Ways.{input_in}
 use Rattle.flow_exec.specs.Works.{works_of}
 use Rattle.flow_net.specs.Net.{run_with}
 use Rattle.flow_net.specs.States.{fault_in, state_from, state_by, state_told}
@@ -110,22 +106,9 @@ module _ {W : Type 0} (meaning : W → Value → Result (List Value) WorkFault) 
     pub left_is : left_in (node_at net b).block ≡ left_at run b
     left_is = ap (λ (trace : BlockTrace). trace.left) trace_is
 
-    pub held_is : (p : ℕ) → (port_at p (node_at net b).block).waiting ≡ held_at run b p
-    held_is p =
-        sym (get_or-map (λ (port : PortState). port.waiting) (node_at net b).block.ports p (fresh_port None))
-        ∙ ap (λ (trace : BlockTrace). get_or trace.held p []) trace_is
-
-    -- what was posted to the block, where it is an input
-    pub posted_is : (input_in net (input_place layout b)).posted ≡ (input_of run b).posted
-    posted_is =
-        ap (λ (input : InputTrace). input.posted) (sym (get_or-map input_trace net.inputs (input_place layout b) no_input))
-
   -- Where the network is in order
 
   module _ (kept : ∥ NetKeeps layout (works_of meaning layout) net ∥₁) (b : ℕ) (low : b < length layout.blocks) where
-    -- it has the ports that the plan gives it
-    pub ports_are : length (node_at net b).block.ports ≡ port_count (block_in layout.blocks b)
-    ports_are = ∥∥₁_elim kept (ℕ_set _ _) (λ keeps. (keeps.nodes b low).shape.port_count_is)
 
     -- its state
     state_in : NodeLaw layout (works_of meaning layout) b (node_at net b)

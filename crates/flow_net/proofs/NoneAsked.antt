@@ -1,5 +1,5 @@
 -- What the callers of exits have received and asked for stays, whatever happens in a network. So no receive waits there where none did.
-use Rattle.std.proofs.Common.{◌≡◌, ℕ, zero, suc, Bool, true, false, not, ◌&&◌, List, [], ◌∷◌, map, set, get_or, is_none, Some, None, Result, Ok, Err, OnOk, OnErr, refl, ap, sym, subst, ◌∙◌}
+use Rattle.std.proofs.Common.{◌≡◌, ℕ, zero, suc, Bool, true, false, not, ◌&&◌, List, [], ◌∷◌, map, set, get_or, is_none, Some, Result, Ok, Err, OnOk, OnErr, refl, ap, sym, subst, ◌∙◌}
 use Rattle.std.proofs.Math.ListN.{get_or-map}
 use Rattle.std.proofs.Math.Seq.{map-set_same}
 use Rattle.std.proofs.lemmas.Bool.{and_from, and_parts, not-true}
@@ -20,7 +20,7 @@ use Rattle.flow_link.specs.Layout.{Layout}
 use Rattle.flow_link.specs.Plan.{link_in}
 use Rattle.flow_block.specs.Planned.{exit_place}
 use Rattle.flow_exit.specs.Exit.{CallerState, ExitCall, ExitState, after_exit, caller_of, exit_move_at, fresh_exit, wants_one}
-use Rattle.flow_core.specs.Events.{after, after_post, source_sees, target_peek, target_sees}
+use Rattle.flow_core.specs.Events.{after_post, source_sees, target_peek, target_sees}
 use Rattle.flow_core.specs.InOrder.{all_looked}
 use Rattle.flow_core.specs.State.{NetState, callers_in, exit_at, line_at}
 use Rattle.flow_core.proofs.SchedulesGoWell.{callers_stay}

@@ -24,13 +24,6 @@ abbrev pub IsEndOfJob : Due → Type 0
 IsEndOfJob (End b ticket) = Unit {0}
 IsEndOfJob _ = ⊥
 
--- it works on its messages
-abbrev pub IsWork : Due → Type 0
-IsWork (Make b) = Unit {0}
-IsWork (Begin b) = Unit {0}
-IsWork (End b ticket) = Unit {0}
-IsWork _ = ⊥
-
 -- a block does it by itself
 abbrev pub IsOwn : Due → Type 0
 IsOwn (Link l next) = ⊥

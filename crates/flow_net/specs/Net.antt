@@ -11,7 +11,7 @@ use Rattle.flow_core.specs.Statements.{IsStill}
 use Rattle.flow_exec.specs.Works.{works_of}
 use Rattle.flow_net.specs.Events.{IsRefused}
 use Rattle.flow_net.specs.Settles.{Settles, GoesOn}
-use Rattle.flow_net.specs.There.{NeedsId, IsWhyNot}
+use Rattle.flow_net.specs.There.{NeedsId}
 use Rattle.flow_net.specs.declared.event.Event.{Event}
 use Rattle.flow_net.specs.declared.fault.NetFault.{NetFault}
 use Rattle.flow_net.specs.declared.net.Net.{Net}
@@ -38,10 +38,6 @@ module _ {W : Type 0} {w : _} {e : _} (meaning : W → Value → Result (List Va
   -- the state after the event
   abbrev pub net_after : Net W w e → NetEvent → NetState
   net_after net event = after (layout_in net) (works_of meaning (layout_in net)) event (parts_of net)
-
-  -- why the event is not done
-  abbrev pub NetWhyNot : Net W w e → NetEvent → NetFault → Type 0
-  NetWhyNot net event fault = IsWhyNot (layout_in net) (works_of meaning (layout_in net)) (parts_of net) event fault
 
   -- something would happen next for which no id is left
   abbrev pub NetNeedsId : Net W w e → Type 0

@@ -1,5 +1,5 @@
 -- What is read of a text grows line by line.
-use Rattle.std.proofs.Common.{◌≡◌, ◌<◌, ◌+◌, ◌-◌, ◌^◌, min, ℕ, List, [], ◌∷◌, ◌++◌, length, take, drop, replicate, refl, ap, sym, ◌∙◌, arith, append_assoc, Option, Some, None, subst, get_or, set, nat_eq, false, inl, inr, ◌⊎◌}
+use Rattle.std.proofs.Common.{◌≡◌, ◌<◌, ◌+◌, ◌-◌, ◌^◌, min, ℕ, List, [], ◌∷◌, ◌++◌, length, take, drop, replicate, refl, ap, sym, ◌∙◌, arith, append_assoc, Option, Some, None, subst, get_or, set, nat_eq, false}
 use Rattle.std.specs.Prelude.{IfSome, IfOk, IfErr, Result, Ok, Err}
 use Rattle.std.specs.Io.{StartsWith}
 use Rattle.std.specs.Io.KnownBytes.{Keeps, Consumes, prepend_known}
@@ -14,10 +14,10 @@ use Rattle.flow_fault_text.specs.declared.fault.TextFault.{TextFault}
 use Rattle.flow_fault_text.specs.declared.fault.TextFault.TheVariants.{Csv, NotUtf8, UnknownInput, Read}
 use Rattle.flow_fault_text.specs.declared.fault.TextRefusal.{TextRefusal}
 use Rattle.flow_fault_text.specs.declared.fault.TextRefusal.TheVariants.{Fault, Memory}
-use Rattle.flow_record_text.specs.Records.{Row, HasFault, PostsTo, PostAll, Explains, Posts, IsNotPosted, IsOfRecords, told_number, records}
+use Rattle.flow_record_text.specs.Records.{Row, HasFault, PostAll, Explains, Posts, IsNotPosted}
 use Rattle.flow_record_text.specs.Lines.{IsPlain, IsRead, PostAllOf, IsFirstOf, ExplainsOf, GoesOn, Stops, GoesFrom, StopsFrom, ReadsLine, LeavesLine, Begun}
 use Rattle.flow_record_text.proofs.PlainLines.{line_name, line_field, plain-next, past-feed, feed-stays, first-stays, reached-more}
-use Rattle.flow_record_text.proofs.RecordsPost.{records-more, records-none, posts-fine, all-fine-more, counted-on, next-number, fault-of_records}
+use Rattle.flow_record_text.proofs.RecordsPost.{records-more, records-none, posts-fine, all-fine-more, counted-on, next-number}
 
 -- a text that begins with bytes of which the first is none of a byte order mark
 pub plain-start : (left : Option (List ℕ)) (shown : List ℕ) → IfSome left (λ bytes. StartsWith bytes shown) → 0 < length shown → nat_eq (get_or shown 0 0) 239 ≡ false
@@ -65,10 +65,6 @@ module _ (names : List (List ℕ)) where
         subst (λ n. HasFault names n row fault) (next-number number _ (length read.rows) read.count refl) why,
       )
 
-  pub not-posted-of_records : (row : Row) (number : ℕ) (refusal : TextRefusal) → IsNotPosted names row number refusal → IsOfRecords refusal
-  not-posted-of_records row number Memory why = tt
-  not-posted-of_records row number (Fault fault) why = fault-of_records names _ row fault why
-
   -- no line yet
   pub goes-none : (number : ℕ) (values : List (List Value)) (bytes : List ℕ) → GoesOn names number values number values (take 0 bytes)
   goes-none number values bytes text more read = read
@@ -100,12 +96,6 @@ module _ (names : List (List ℕ)) where
       let here = so_far text (piece ++ behind) (subst (λ left. IsRead names n0 v0 text left) whole read) in
       refused-at n1 v1 text (piece ++ behind) behind _ refusal here (plain-next rest comma end plain behind) why
 
-  -- what a reader has left, where nothing is read of it
-  pub from-keeps : (n : ℕ) (v : List (List Value)) (old new : Option (List ℕ)) → Keeps old new → GoesFrom names n v n v old new
-  from-keeps n v None new keeps = tt
-  from-keeps n v (Some left) None keeps = keeps
-  from-keeps n v (Some left) (Some more) keeps = λ bytes read. subst (IsRead names n v bytes) (sym keeps) read
-
   -- where a piece in front of it is
   pub from-piece : (n0 n1 : ℕ) (v0 v1 : List (List Value)) (old new : Option (List ℕ)) (piece : List ℕ) → Consumes old new piece
       → GoesOn names n0 v0 n1 v1 piece → GoesFrom names n0 v0 n1 v1 old new
@@ -121,16 +111,6 @@ module _ (names : List (List ℕ)) where
       let parts : left ≡ shown ++ drop (length shown) left =
       sym (take-append-drop (length shown) left) ∙ ap (λ piece. piece ++ drop (length shown) left) front in
       stops bytes (drop (length shown) left) (subst (IsRead names n v bytes) parts read)
-
-  -- a reader that failed, and memory, say nothing
-  unsaid : (bytes : List ℕ) (refusal : TextRefusal) → (refusal ≡ Memory) ⊎ (refusal ≡ Fault Read) → ExplainsOf names bytes refusal
-  unsaid bytes refusal (inl why) = subst (ExplainsOf names bytes) (sym why) tt
-  unsaid bytes refusal (inr why) = subst (ExplainsOf names bytes) (sym why) tt
-
-  pub stops-unsaid : (n : ℕ) (v : List (List Value)) (old : Option (List ℕ)) (refusal : TextRefusal) → (refusal ≡ Memory) ⊎ (refusal ≡ Fault Read)
-      → StopsFrom names n v old refusal
-  stops-unsaid n v None refusal why = tt
-  stops-unsaid n v (Some left) refusal why = λ bytes read. unsaid bytes refusal why
 
   -- one after the other
   pub from-both : (n0 n1 n2 : ℕ) (v0 v1 v2 : List (List Value)) (a b c : Option (List ℕ)) → GoesFrom names n0 v0 n1 v1 a b → GoesFrom names n1 v1 n2 v2 b c
@@ -160,15 +140,6 @@ module _ (names : List (List ℕ)) where
   stops-line-read n v (Some left) None line refusal reads stops = absurd reads
   stops-line-read n v (Some left) (Some more) line refusal (rest, is, parts) stops = λ bytes read.
       stops bytes more (subst (IsRead names n v bytes) (parts ∙ ap (λ (whole : List ℕ). drop 1 whole ++ more) (sym is)) read)
-
-  -- a line that is left
-  pub leaves-line : (n0 n1 : ℕ) (v0 v1 : List (List Value)) (a b c : Option (List ℕ)) (line : List ℕ) → GoesFrom names n0 v0 n1 v1 a b → ReadsLine b c line
-      → LeavesLine names n0 v0 n1 v1 a c line
-  leaves-line n0 n1 v0 v1 None b c line goes reads = tt
-  leaves-line n0 n1 v0 v1 (Some left) None c line goes reads = absurd goes
-  leaves-line n0 n1 v0 v1 (Some left) (Some next) None line goes reads = reads
-  leaves-line n0 n1 v0 v1 (Some left) (Some next) (Some more) line goes (rest, is, parts) = λ bytes read.
-      (rest, is, subst (IsRead names n1 v1 bytes) parts (goes bytes read))
 
   -- of a text of which nothing is read
   pub read-none : (count : ℕ) (values : List (List Value)) (bytes : List ℕ) → count ≡ length names → values ≡ replicate count [] → IsRead names 0 values bytes bytes

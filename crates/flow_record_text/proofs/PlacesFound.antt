@@ -1,7 +1,6 @@
 -- A map into which the names of inputs are put, one by one, finds each input by its name, and nothing by another.
 use Rattle.std.proofs.Common.{◌≡◌, ◌<◌, ◌+◌, ◌∙◌, ℕ, zero, suc, Bool, true, false, List, [], length, get_or, Option, Some, None, Bor, refl, sym, ap, cond, arith, Result, Ok, Err, OnOk}
-use Rattle.std.specs.HashMap.{HashMap, IsEmpty, UpdatesBy}
-use Rattle.std.specs.Map.{lookup}
+use Rattle.std.specs.HashMap.{HashMap, UpdatesBy}
 use Rattle.std.specs.Result.{is_ok}
 use Rattle.std.specs.Str.{bytes_eq}
 use Rattle.std.proofs.lemmas.List.Quantifiers.{position-Some}
@@ -18,9 +17,6 @@ pub on_ok : {A E : Type 0} {P : Type 0} (result : Result A E) → is_ok result �
 on_ok (Ok a) good is = is
 on_ok (Err e) good is = absurd (wrong good)
 
-none-some : (place : ℕ) → None ≡ Some place → ⊥
-none-some place same = cc
-
 not-last : (i place : ℕ) → i < place + 1 → (i ≡ place → ⊥) → i < place
 not-last zero zero low other = absurd (other refl)
 not-last zero (suc place) low other = omega arith
@@ -35,13 +31,6 @@ module _ {S : Type 0} (names : List (List ℕ)) where
   -- it finds the first inputs, so many
   abbrev pub FindsFirst : HashMap (Bor (List ℕ)) ℕ S → ℕ → Type 0
   FindsFirst places count = (place : ℕ) → place < count → place_in places (get_or names place []) ≡ Some place
-
-  -- an empty one finds nothing
-  pub empty-right : (places : HashMap (Bor (List ℕ)) ℕ S) → IsEmpty places → IsRight places
-  empty-right places empty name place found = absurd (none-some place (sym (ap (lookup (λ (key : Bor (List ℕ)). bytes_eq name key.now)) empty) ∙ found))
-
-  pub finds-none : (places : HashMap (Bor (List ℕ)) ℕ S) → FindsFirst places 0
-  finds-none places place low = absurd (omega (arith, low))
 
   -- one name more is put there
   module _ (old new : HashMap (Bor (List ℕ)) ℕ S) (key : List ℕ) (place : ℕ) (differ : AllDiffer names) (low : place < length names)

@@ -1,6 +1,5 @@
 -- How the values of each input grow by the records that are read.
-use Rattle.std.proofs.Common.{◌≡◌, ◌≤◌, ◌<◌, ◌+◌, ◌-◌, ◌^◌, min, ℕ, suc, zero, List, [], ◌∷◌, ◌++◌, length, take, get_or, set, map, refl, ap, sym, ◌∙◌, arith, append_assoc, length-append, Option, Some, None, Bool, true, false, cond, subst, nat_eq, replicate, inl, inr, ◌⊎◌}
-use Rattle.std.specs.Prelude.{IfSome, option_map}
+use Rattle.std.proofs.Common.{◌≡◌, ◌≤◌, ◌<◌, ◌+◌, ◌-◌, ◌^◌, min, ℕ, suc, zero, List, [], ◌∷◌, ◌++◌, length, take, get_or, set, map, refl, ap, sym, ◌∙◌, arith, append_assoc, length-append, Some, Bool, true, false, cond, subst, nat_eq, replicate, ◌⊎◌}
 use Rattle.std.specs.List.{filter}
 use Rattle.std.specs.Str.{bytes_eq, IsUtf8}
 use Rattle.std.proofs.lemmas.List.{append-nil, map-append, take_more, get_or-map, map-set}
@@ -14,16 +13,8 @@ use Rattle.flow_value.specs.declared.value.Value.{Value}
 use Rattle.flow_value.specs.declared.value.Value.TheVariants.{Text}
 use Rattle.flow_link.specs.declared.draft.BlockDef.{BlockDef}
 use Rattle.flow_link.specs.Lists.{numbers_from}
-use Rattle.csv.specs.Reading.{default_config, strip_bom, Reached, ReadRecord, source_of, reader_state, reader_config}
-use Rattle.csv.specs.declared.reader.Reader.{Reader}
 use Rattle.csv.specs.declared.parser.State.TheVariants as at
-use Rattle.csv.proofs.ReadFacts.{rows-more, rows-end}
-use Rattle.flow_fault_text.specs.declared.fault.TextFault.{TextFault}
-use Rattle.flow_fault_text.specs.declared.fault.TextFault.TheVariants.{Csv, NotUtf8, UnknownInput, Read}
-use Rattle.flow_fault_text.specs.declared.fault.TextRefusal.{TextRefusal}
-use Rattle.flow_fault_text.specs.declared.fault.TextRefusal.TheVariants.{Fault, Memory}
-use Rattle.flow_record_text.specs.Places.{HasNoInput}
-use Rattle.flow_record_text.specs.Records.{HasFault, IsFirstFault, IsOfRecords, Explains, PostAll, told_number, room, Row, texts_of, input_names, input_named, is_this, posts_to, value_of, values_for, records, AllDiffer, IsFine, AllFine, PostsTo, posted_values, posted_endings}
+use Rattle.flow_record_text.specs.Records.{told_number, room, Row, input_names, input_named, is_this, posts_to, value_of, values_for, records, AllDiffer, IsFine, AllFine, PostsTo, posted_values, posted_endings}
 
 -- a block's name, if it is an input
 input_names-append : {W : Type 0} (front back : List (BlockDef W)) → input_names (front ++ back) ≡ input_names front ++ input_names back
@@ -185,24 +176,6 @@ posts-found names (_ ∷ []) i text two found is second = absurd (omega (arith, 
 posts-found names (_ ∷ _ ∷ _ ∷ rest) i text two found is second = absurd (omega (arith, two))
 posts-found names (name ∷ field ∷ []) i text two found is second = (found.0, sym is, found.1, subst IsUtf8 is second)
 
--- and why a record can't be posted whose name is that of no input
-pub faulty-name : (names : List (List ℕ)) (number : ℕ) (row : Row) (text : List ℕ) (fault : TextFault) → length row ≡ 2
-    → text ≡ get_or row 1 [] → IsUtf8 text → HasNoInput (input_named names (get_or row 0 [])) number (get_or row 0 []) fault → HasFault names number row fault
-faulty-name names number [] text fault two is second refused = absurd (omega (arith, two))
-faulty-name names number (_ ∷ []) text fault two is second refused = absurd (omega (arith, two))
-faulty-name names number (_ ∷ _ ∷ _ ∷ rest) text fault two is second refused = absurd (omega (arith, two))
-faulty-name names number (name ∷ field ∷ []) text (NotUtf8 n) two is second refused = (refused.0, λ first _. refused.1 first)
-faulty-name names number (name ∷ field ∷ []) text (UnknownInput n) two is second refused = (refused.0, refused.1, subst IsUtf8 is second, refused.2)
-faulty-name names number (name ∷ field ∷ []) text (Csv n) two is second refused = absurd refused
-faulty-name names number (name ∷ field ∷ []) text _ two is second refused = refused
-
--- an input that gets a text is there
-pub posts-within : (names : List (List ℕ)) (row : Row) (i : ℕ) (text : List ℕ) → PostsTo names row i text → i < length names
-posts-within names [] i text posts = absurd posts
-posts-within names (_ ∷ []) i text posts = absurd posts
-posts-within names (_ ∷ _ ∷ _ ∷ _) i text posts = absurd posts
-posts-within names (first ∷ second ∷ []) i text posts = named-within names first i posts.0
-
 -- the number of the next record
 pub next-number : (number next count : ℕ) → number ≡ told_number count → next ≡ min (number + 1) (2 ^ 64 - 1) → next ≡ told_number (count + 1)
 next-number number next count here counted = omega (arith, here, counted)
@@ -210,17 +183,6 @@ next-number number next count here counted = omega (arith, here, counted)
 pub counted-on : (rows : List Row) (row : Row) (number next : ℕ) → number ≡ told_number (length rows) → next ≡ min (number + 1) (2 ^ 64 - 1)
     → next ≡ told_number (length (rows ++ row ∷ []))
 counted-on rows row number next here counted = next-number number next (length rows) here counted ∙ ap told_number (sym (length-append rows (row ∷ [])))
-
--- a fault of a record is one that reading stops for
-pub fault-of_records : (names : List (List ℕ)) (number : ℕ) (row : Row) (fault : TextFault) → HasFault names number row fault → IsOfRecords (Fault fault)
-fault-of_records names number row (Csv n) h = tt
-fault-of_records names number row (NotUtf8 n) h = tt
-fault-of_records names number row (UnknownInput n) h = tt
-fault-of_records names number row Read h = tt
-fault-of_records names number [] _ h = h
-fault-of_records names number (_ ∷ []) _ h = h
-fault-of_records names number (_ ∷ _ ∷ []) _ h = h
-fault-of_records names number (_ ∷ _ ∷ _ ∷ _) _ h = h
 
 -- a record of two fields is these
 pub two-parts : (row : Row) (name field : List ℕ) → length row ≡ 2 → Some name ≡ field_at row 0 → Some field ≡ field_at row 1 → row ≡ name ∷ field ∷ []

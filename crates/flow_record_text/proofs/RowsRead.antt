@@ -1,5 +1,5 @@
 -- What is read of a text grows record by record, as a reader of CSV gives them.
-use Rattle.std.proofs.Common.{◌≡◌, ◌+◌, ◌-◌, ◌^◌, min, ℕ, List, [], ◌∷◌, ◌++◌, length, refl, ap, sym, ◌∙◌, Option, Some, None, true, false, subst, get_or, set, inl, inr, ◌⊎◌}
+use Rattle.std.proofs.Common.{◌≡◌, ◌+◌, ◌-◌, ◌^◌, ℕ, List, [], ◌∷◌, ◌++◌, length, refl, ap, sym, ◌∙◌, Option, Some, None, true, false, subst, get_or, set}
 use Rattle.std.specs.Prelude.{IfSome, option_map}
 use Rattle.csv.specs.Machine.{next_record}
 use Rattle.csv.specs.Reading.{default_config, strip_bom, Reached, ReadRecord, source_of, reader_state, reader_config}
@@ -127,10 +127,3 @@ module _ {R : Type 0} (known : R → Option (List ℕ)) (names : List (List ℕ)
         subst (λ n. HasFault names n row fault) (next-number number _ (length so_far.rows) so_far.count refl) why,
       )
 
--- a reader that failed, and memory, say nothing
-pub row-unsaid : (names : List (List ℕ)) (n0 : ℕ) (v0 : List (List Value)) (left : Option (List ℕ)) (refusal : TextRefusal)
-    → (refusal ≡ Memory) ⊎ (refusal ≡ Fault Read)
-    → IfSome left (λ whole. (bytes : List ℕ) → Begun names n0 v0 bytes whole → ExplainsOf names bytes refusal)
-row-unsaid names n0 v0 None refusal why = tt
-row-unsaid names n0 v0 (Some whole) refusal (inl why) = λ bytes first. subst (ExplainsOf names bytes) (sym why) tt
-row-unsaid names n0 v0 (Some whole) refusal (inr why) = λ bytes first. subst (ExplainsOf names bytes) (sym why) tt

@@ -1,5 +1,5 @@
 -- Which values an iterator gives that picks some of what another gives.
-use Rattle.std.proofs.Common.{◌≡◌, refl, sym, ap, ◌∙◌, subst, List, [], ◌∷◌, ◌++◌, map, Option, Some, None}
+use Rattle.std.proofs.Common.{◌≡◌, refl, sym, ap, ◌∙◌, subst, List, [], ◌∷◌, ◌++◌, Option, Some, None}
 use Rattle.std.proofs.lemmas.Iterator.{YieldsList}
 use Rattle.std.specs.Iterator.{AlwaysYields, Yields}
 use Rattle.std.specs.Iterator.Adapters.{filter_map_source, filter_map_callee, filter_map_steps}
@@ -76,10 +76,3 @@ pub picked_yields : {S A B C D F : Type 0} {steps : S → Option A → S → Typ
 picked_yields {steps = steps} {v = v} {ys = ys} {s = s} {f = f} w g picked from same nothing calls =
     record { runs = yields_picked steps v w g picked f nothing calls (picked ys) ys s same refl from.runs }
 
--- the same items, each read by w
-read_all : {S A D : Type 0} (steps : S → Option A → S → Type 0) (w : A → D) (ys : List A) (s : S) → AlwaysYields steps (λ x. x) s ys → AlwaysYields steps w s (map w ys)
-read_all steps w [] s gives = gives
-read_all steps w (y ∷ ys) s gives = (gives.0, λ x j step. (ap w (gives.1 x j step).0, read_all steps w ys j (gives.1 x j step).1))
-
-pub read_yields : {S A D : Type 0} {steps : S → Option A → S → Type 0} {s : S} {ys : List A} (w : A → D) → YieldsList steps (λ x. x) s ys → YieldsList steps w s (map w ys)
-read_yields {steps = steps} {s = s} {ys = ys} w from = record { runs = read_all steps w ys s from.runs }

@@ -33,8 +33,6 @@ use Rattle.flow_fault_text.specs.declared.fault.TextFault.TheVariants.{Write}
 use Rattle.flow_fault_text.specs.declared.fault.TextRefusal.{TextRefusal}
 use Rattle.flow_fault_text.specs.declared.fault.TextRefusal.TheVariants.{Fault, Memory}
 use Rattle.flow_plan_text.specs.Plan.{IsUnplannedFor}
-use Rattle.flow_report.specs.Written.{StaysInFront}
-use Rattle.flow_run.specs.Left.{IsLeft as IsLeftIn}
 use Rattle.flow_run.specs.Ran.{Begins, HasEnded, HasRun, HasUnreadRecords, HasUnwrittenReport, IsPosted, IsReported, IsReportedOf, IsUnbegun, IsUnreported}
 use Rattle.flow_run.specs.Refusal.{refusal_of, told_as}
 use Rattle.flow_run.specs.declared.outcome.Ran.{Ran}
@@ -173,9 +171,3 @@ module _ (text : List ℕ) (records : Option (List ℕ)) where
   no_report workers limit refusal is h =
       subst (λ (r : TextRefusal). IsUnreported text records workers limit (refusal_of r)) (sym is) (inr h)
 
--- a writer that failed keeps what was there
-pub failed : (old new : Option (List ℕ)) (refusal : TextRefusal) → refusal ≡ Fault Write → StaysInFront old new → IsLeftIn (refusal_of refusal) old new
-failed old new refusal is stays = record {
-  in_front = stays;
-  as_it_was = λ differs. absurd (differs (ap refusal_of is));
-}

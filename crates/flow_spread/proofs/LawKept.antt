@@ -141,9 +141,6 @@ fresh_keeps pending once stopped rules first low high = record {
 
 -- What is left
 
-zero_is : (n : ℕ) → n ≡ 0 → (n == 0) ≡ true
-zero_is n e = grind (arith, nat_tests)
-
 none_where : (none : Bool) (element : Option Value) → is_some element ≡ true → cond none None element ≡ None → none ≡ true
 none_where true element some e = refl
 none_where false None some e = cc

@@ -13,7 +13,7 @@ use Rattle.flow_link.specs.declared.trace.Ending.{Ending}
 use Rattle.flow_link.specs.declared.trace.Ending.TheVariants.{Complete}
 use Rattle.flow_link.specs.Layout.{Layout}
 use Rattle.flow_link.specs.Posted.{input_of, is_numbered_ending, ends_by_number}
-use Rattle.flow_link.specs.Trace.{InputTrace, Run}
+use Rattle.flow_link.specs.Trace.{InputTrace}
 use Rattle.flow_core.specs.Inputs.{none_posted}
 use Rattle.flow_core.specs.State.{NetState, fresh_net}
 use Rattle.flow_core.proofs.InputsChange.{fresh_none_posted}
@@ -70,15 +70,6 @@ posts_to_inputs text layout start posted made values endings =
 pub posted_in : (text : List ℕ) (now layout : Layout Steps) (start : NetState) → now ≡ layout
     → IsPosted text (run_with meaning_of layout start) → IsPosted text (run_with meaning_of now start)
 posted_in text now layout start same posted = subst (λ (l : Layout Steps). IsPosted text (run_with meaning_of l start)) (sym same) posted
-
--- and its inputs are given the same as it goes on
-pub posted_as : (text : List ℕ) (layout : Layout Steps) (start now : NetState)
-    → (run_with meaning_of layout now).trace.inputs ≡ (run_with meaning_of layout start).trace.inputs
-    → IsPosted text (run_with meaning_of layout start) → IsPosted text (run_with meaning_of layout now)
-posted_as text layout start now same posted = record {
-  values = subst (λ (inputs : List InputTrace). PostAll (input_names layout.blocks) text (map (λ (input : InputTrace). input.posted) inputs)) (sym same) posted.values;
-  endings = ap (map (λ (input : InputTrace). input.ending)) same ∙ posted.endings;
-}
 
 -- in a network that begins, no value is posted to a target that has not answered
 pub none_at_first : (layout : Layout Steps) (start : NetState) (inputs : List InputTrace) → start ≡ fresh_net layout inputs → none_posted start ≡ true

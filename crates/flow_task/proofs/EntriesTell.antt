@@ -82,25 +82,6 @@ none_refused : (input : InputState) (stage : SourceStage) (next : Move) → move
 none_refused input Refused next e = absurd (cc)
 none_refused input _ next e = refl
 
-pub moves_on : (input : InputState) → ∥ InputLaw input ∥₁ → (next : Move) → input_move input ≡ Some next
-    → MovesOn input (input_after (input_call next) input)
-moves_on input law (move.Offer i) peek = record {
-  sends = unseen input law InputCall.offer refl;
-  same_ending = refl;
-  stands = sym (none_refused input input.stage (move.Offer i) peek);
-}
-moves_on input law move.Give peek = record {
-  sends = unseen input law InputCall.give refl;
-  same_ending = refl;
-  stands = sym (none_refused input input.stage move.Give peek);
-}
-moves_on input law (move.End how) peek = record {
-  sends = unseen input law (InputCall.end_link how) refl;
-  same_ending = refl;
-  stands = sym (none_refused input input.stage (move.End how) peek);
-}
-moves_on input law _ peek = record { sends = refl; same_ending = refl; stands = refl }
-
 -- What is told
 
 settled_low : (crossing : Bool) (n : ℕ) → cond crossing (n - 1) n ≤ n
@@ -161,9 +142,6 @@ module _ (input : InputState) (Q : Told → Type 0)
 pub record TellsNothing (input : InputState) (told : Told) : Type 0 where
   pub same : after_told told.call input ≡ input
   pub all : input.told ≡ settled input
-
-nothing_prop : (input : InputState) (told : Told) → IsProp (TellsNothing input told)
-nothing_prop input told = Prim.hlevel (codes, content.the_row.coded)
 
 pub told_nothing : (input : InputState) → ∥ InputLaw input ∥₁ → tells_nothing (told_next input).answer ≡ true
     → TellsNothing input (told_next input)

@@ -1,6 +1,5 @@
 -- A step of an exit: it merely is in order, so it is afterwards, and the end of its link knows what it then knows.
-use Rattle.std.proofs.Common.{◌≡◌, ℕ, Bool, true, false, cond, List, [], ◌∷◌, ◌++◌, option_to_list, Option, Some, None, is_some, is_none, Result, Ok, Err, OnOk, OnErr, refl, sym, ap, ◌∙◌, subst}
-use Rattle.std.proofs.lemmas.List.{append-nil}
+use Rattle.std.proofs.Common.{◌≡◌, ℕ, Bool, true, false, cond, List, [], Option, Some, None, is_some, is_none, Result, Ok, Err, OnOk, OnErr, refl, sym, ap, ◌∙◌, subst}
 use Rattle.std.proofs.Math.Logic.{∥∥₁_elim, ∥∥₁_map}
 use Rattle.std.specs.Coded.{codes}
 use Rattle.atomic_table.specs.Seated.{TableId, table_id_coded}
@@ -20,13 +19,11 @@ use Rattle.flow_link.specs.Looks.{looking_in}
 use Rattle.flow_link.specs.Plan.{is_sole, is_steady, link_in}
 use Rattle.flow_link.specs.Stage.{target_looks}
 use Rattle.flow_link.specs.Views.{TargetStage as TargetAt, TargetView}
-use Rattle.flow_link.specs.declared.trace.Outcome.{Outcome}
-use Rattle.flow_poll.specs.Receives.{Gives, IsNotOver, ReceiveView, Sight, StaysOver}
-use Rattle.flow_poll.specs.declared.receive.Received.{Received}
+use Rattle.flow_poll.specs.Receives.{Sight, StaysOver}
 use Rattle.flow_poll.specs.declared.receive.Received.TheVariants as received
-use Rattle.flow_moves.specs.Sights.{comes_near, exit_seen, is_near, sight_at, sight_of}
+use Rattle.flow_moves.specs.Sights.{is_near, sight_at, sight_of}
 use Rattle.flow_block.specs.Planned.{is_exit, leads_out}
-use Rattle.flow_exit.specs.Exit.{ExitState, ExitCall, after_exit, exit_after, exit_call, exit_move, exit_move_at, exit_outcome, exit_view, is_callers, outcome_at, over_by, wants_one}
+use Rattle.flow_exit.specs.Exit.{ExitState, ExitCall, after_exit, exit_after, exit_call, exit_move, exit_move_at, exit_view, is_callers, outcome_at, wants_one}
 use Rattle.flow_exit.specs.ExitKeeps.{ExitLaw}
 use Rattle.flow_exit.proofs.ExitsKeep.{exits_keep}
 use Rattle.flow_core.specs.MovesFit.{InFits, IsOutward}
@@ -168,16 +165,6 @@ pub received_stepped : (moved : Bool) (old new : ExitState) → StepsBy moved ol
 received_stepped true old new steps = ap (λ (exit : ExitState). exit.received) steps.leaves ∙ received_moved steps.slot steps.next old
 received_stepped false old new same = ap (λ (exit : ExitState). exit.received) same
 
--- what is over has nothing to receive
-over_received_by : (kept : Option Value) (stage : TargetStage) (near : Bool)
-    → StaysOver (sight_at (cond (is_none kept) (outcome_at stage) None) near) (sight_at (outcome_at stage) (comes_near stage))
-over_received_by (Some value) stage near = ends_not near (sight_at (outcome_at stage) (comes_near stage))
-over_received_by None (Ended how) near = refl
-over_received_by None stage near = ends_not near (sight_at (outcome_at stage) (comes_near stage))
-
-pub over_received : (exit : ExitState) → StaysOver (sight_of exit) (sight_of (after_exit ExitCall.receive exit))
-over_received exit = over_received_by exit.kept exit.stage (is_near exit)
-
 pub goes_looked : (phase : Phase) (old new : ExitState) → new ≡ after_exit (ExitCall.look phase) old → ExitGoes old new
 goes_looked phase old new is = record {
   received = ap (λ (exit : ExitState). exit.received) is;
@@ -204,44 +191,3 @@ goes_further first mid last head tail = record {
 
 -- What a receive answers
 
--- by what was received before, whatever was in sight
-pub gives_from : (answer : Received) (old mid new : ReceiveView) → mid.received ≡ old.received → Gives answer mid new → Gives answer old new
-gives_from received.Waiting old mid new same gives = (gives.0 ∙ same, gives.1)
-gives_from (received.Message value) old mid new same gives = gives ∙ ap (λ (all : List Value). all ++ value ∷ []) same
-gives_from (received.Ended how) old mid new same gives = (gives.0 ∙ same, gives.1)
-
--- a message that was kept
-pub gives_kept : (value : Value) (old new : ExitState) → Some value ≡ old.kept → new ≡ after_exit ExitCall.receive old
-    → Gives (received.Message value) (exit_seen old) (exit_seen new)
-gives_kept value old new kept is =
-    ap (λ (exit : ExitState). exit.received) is ∙ ap (λ (found : Option Value). old.received ++ option_to_list found) (sym kept)
-
--- none was kept
-none_kept : (old new : ExitState) → None ≡ old.kept → new ≡ after_exit ExitCall.receive old → new.received ≡ old.received
-none_kept old new none is =
-    ap (λ (exit : ExitState). exit.received) is ∙ ap (λ (found : Option Value). old.received ++ option_to_list found) (sym none)
-    ∙ append-nil old.received
-
-kept_then : (old new : ExitState) → new ≡ after_exit ExitCall.receive old → new.kept ≡ None
-kept_then old new is = ap (λ (exit : ExitState). exit.kept) is
-
-sight_then : (exit : ExitState) (how : Option Outcome) → exit.kept ≡ None → how ≡ exit_outcome exit → over_by exit ≡ how
-sight_then exit how none is = ap (λ (found : Option Value). cond (is_none found) (exit_outcome exit) None) none ∙ sym is
-
-pub gives_end : (how : Outcome) (old new : ExitState) → None ≡ old.kept → new ≡ after_exit ExitCall.receive old → Some how ≡ exit_outcome new
-    → Gives (received.Ended how) (exit_seen old) (exit_seen new)
-gives_end how old new none is end =
-    (none_kept old new none is, ap (λ (over : Option Outcome). sight_at over (is_near new)) (sight_then new (Some how) (kept_then old new is) end))
-
-not_over : (near : Bool) → IsNotOver (sight_at None near)
-not_over true = tt
-not_over false = tt
-
-pub gives_none : (old new : ExitState) → None ≡ old.kept → new ≡ after_exit ExitCall.receive old → None ≡ exit_outcome new
-    → Gives received.Waiting (exit_seen old) (exit_seen new)
-gives_none old new none is end =
-    let over = sight_then new None (kept_then old new is) end in
-    (none_kept old new none is, subst (λ (how : Option Outcome). IsNotOver (sight_at how (is_near new))) (sym over) (not_over (is_near new)))
-
-pub over_after_receive : (old new : ExitState) → new ≡ after_exit ExitCall.receive old → StaysOver (sight_of old) (sight_of new)
-over_after_receive old new is = subst (λ (exit : ExitState). StaysOver (sight_of old) (sight_of exit)) (sym is) (over_received old)

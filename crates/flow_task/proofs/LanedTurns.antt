@@ -1,7 +1,7 @@
 -- What comes of a turn of a block, and of what its lanes do behind it.
-use Rattle.std.proofs.Common.{◌≡◌, ℕ, ◌+◌, ◌-◌, ◌<◌, ◌≤◌, ltb, cond, Bool, true, false, not, ◌&&◌, ◌||◌, List, length, Option, Some, None, is_none, is_some, Result, Ok, Err, IfOk, refl, sym, ap, ◌∙◌, subst, arith}
+use Rattle.std.proofs.Common.{◌≡◌, ℕ, ◌+◌, ◌-◌, ◌<◌, ◌≤◌, ltb, cond, Bool, true, false, not, ◌&&◌, ◌||◌, List, length, Option, Some, None, is_none, Result, Ok, Err, IfOk, refl, sym, ap, ◌∙◌, subst, arith}
 use Rattle.std.proofs.Math.Logic.{∥∥₁_elim, ∥∥₁_prop}
-use Rattle.std.proofs.lemmas.Bool.{and_parts, lt-ltb}
+use Rattle.std.proofs.lemmas.Bool.{and_parts}
 use Rattle.flow_value.specs.declared.value.Value.{Value}
 use Rattle.flow_link.specs.declared.trace.Outcome.{Outcome}
 use Rattle.flow_link.specs.Plan.{has_work}
@@ -17,8 +17,8 @@ use Rattle.flow_poll.specs.declared.actor.TurnState.{TurnState}
 use Rattle.flow_poll.specs.declared.actor.TurnState.TheVariants as turn
 use Rattle.flow_task.specs.Cells.{is_told}
 use Rattle.flow_task.specs.Events.{AllLook, HasEvent, HasLooked, Spends, TurnsBy}
-use Rattle.flow_task.specs.Laned.{BeginIsDone, LanesRest, is_ended, state_with}
-use Rattle.flow_task.specs.Turns.{JobsAreDone, are_links_over, has_done, state_of}
+use Rattle.flow_task.specs.Laned.{BeginIsDone, LanesRest, is_ended}
+use Rattle.flow_task.specs.Turns.{JobsAreDone, are_links_over, state_of}
 use Rattle.flow_task.proofs.Spends.{turns_by, turns_more}
 
 -- What happens
@@ -134,9 +134,3 @@ rest_of_some budget count makes node lanes (Err fault) rest = tt
 
 -- The state
 
--- a turn that did an event has moved, whatever else it did
-pub moved_so : (more over told : Bool) (events : ℕ) (known : Option Outcome) (node : NodeState) → 0 < events
-    → turn.Moved ≡ state_with more over (state_of (has_done events told known) known node)
-moved_so more over told events known node some =
-    ap (λ (test : Bool). state_with more over (cond (test || (not told && is_some known)) turn.Moved
-    (cond (is_told known node.block.stopped && are_links_over node) turn.Ended turn.Idle))) (sym (lt-ltb 0 events some))

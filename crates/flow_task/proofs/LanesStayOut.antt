@@ -202,10 +202,6 @@ pub works_where : {W : Type 0} (layout : Layout W) (meaning : ℕ → Value → 
 works_where layout meaning b node law ticket out =
     ∥∥₁_elim law (Bool-set _ _) (λ known. (block_planned layout meaning b node known).works ticket out)
 
--- if there are any lanes
-pub some_out : {W : Type 0} (node : NodeState) (lanes : LanesState W) → LanesAreOut node lanes → ForSome (Some lanes) (λ its. LanesAreOut node its)
-some_out node lanes out its is = let same : lanes ≡ its = cc in subst (LanesAreOut node) same out
-
 pub made_out : {W : Type 0} (node : NodeState) (lanes : Option (LanesState W)) → ForSome lanes (λ its. list_all has_room its.sides ≡ true)
     → ForSome lanes (λ its. LanesAreOut node its)
 made_out node lanes free its is = new_out node its (free its is)

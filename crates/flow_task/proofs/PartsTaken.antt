@@ -35,9 +35,6 @@ module _ {W : Type 0} {w : _} {e : _} (board : Board W) where
     pub all_is : all ≡ before ++ left
     pub at : All (λ entry. EntryBelow place inputs entry) before
 
-  pub none_taken : (all : List (Entry W w e)) (inputs : List InputState) → EntriesTaken all 0 inputs all
-  none_taken all inputs = record { before = []; all_is = refl; at = λ k d low. absurd (omega (arith, low)) }
-
   -- the values of an input stayed that is no entry, or to whose entry no call was made
   pub stays_from : (opened : Bool) (part : InputTask W w e) (all : List (Entry W w e)) (place : ℕ) (inputs : List InputState)
       (old new : List (Entry W w e)) → EntriesTaken all place inputs old → IsTakenFrom opened part old new → part.of.value ≡ board

@@ -1,5 +1,5 @@
 -- In each step of a turn a journal goes on, and where nothing was done it is as it was: a look marks nothing.
-use Rattle.std.proofs.Common.{◌≡◌, ℕ, Bool, true, false, cond, List, [], ◌∷◌, Some, Result, Ok, Err, ap, sym, ◌∙◌, subst}
+use Rattle.std.proofs.Common.{◌≡◌, ℕ, Bool, true, false, cond, List, [], ◌∷◌, Some, Result, Ok, Err, ap, sym, subst}
 use Rattle.std.specs.Coded.{codes}
 use Rattle.std.specs.declared.alloc.AllocError.{AllocError}
 use Rattle.std.proofs.Math.Logic.{∥∥₁_elim}
@@ -15,7 +15,7 @@ use Rattle.flow_block.specs.Node.{NodeState, NodeCall}
 use Rattle.flow_core.specs.Events.{in_call, source_call, source_look}
 use Rattle.flow_moves.specs.Calls.{Calls}
 use Rattle.flow_poll.specs.Turns.{Extends}
-use Rattle.flow_poll.proofs.EachGoes.{extends_further, extends_itself}
+use Rattle.flow_poll.proofs.EachGoes.{extends_itself}
 use Rattle.flow_task.specs.Events.{BlockEvent, BlockHappens, Does}
 use Rattle.flow_task.specs.Turns.{Grows}
 use Rattle.flow_task.proofs.JournalsGrow.{grown}
@@ -67,12 +67,6 @@ event_grows ends makes (BlockEvent.move_out k next) old new is = grown (source_c
 
 -- A step, where the journal was as it is before
 
-pub grows_from : (result : Result Bool AllocError) (first old new : NodeState) → old.journal ≡ first.journal → Grows result old new
-    → Grows result first new
-grows_from (Ok true) first old new same grows = subst (λ (journal : List Mark). Extends journal new.journal) same grows
-grows_from (Ok false) first old new same grows = grows ∙ same
-grows_from (Err fault) first old new same grows = grows ∙ same
-
 pub does_grows : (ends : Bool) (makes : Value → Result (List Value) ℕ) (result : Result Bool AllocError) (old new : NodeState) → Does ends makes result old new
     → Grows result old new
 does_grows ends makes (Ok true) old new does = ∥∥₁_elim does (extends_prop old.journal new.journal) (λ some. event_grows ends makes some.0 old new some.1)
@@ -81,11 +75,3 @@ does_grows ends makes (Err fault) old new does = ap marks_of does
 
 -- Step after step
 
-pub step_extends : (result : Result Bool AllocError) (did : Bool) (old new : NodeState) → result ≡ Ok did → did ≡ true → Grows result old new
-    → Extends old.journal new.journal
-step_extends result did old new is said grows =
-    subst (λ (r : Result Bool AllocError). Grows r old new) (is ∙ ap (λ (b : Bool). Ok b) said) grows
-
-pub turns_further : (first old new : NodeState) → Extends first.journal old.journal → Extends old.journal new.journal
-    → Extends first.journal new.journal
-turns_further first old new head tail = extends_further first.journal old.journal new.journal head tail

@@ -28,12 +28,6 @@ module _ (starts : ℕ → Start) where
         ∙ sym (map-append known (below n) (n ∷ []))
         ∙ ap (map known) (sym (below_more n))
 
-    -- one less
-    split_is : (n : ℕ) (ends : List E) (end : E) → map side (ends ++ end ∷ []) ≡ map known (below (n + 1))
-        → map side ends ++ side end ∷ [] ≡ map known (below n) ++ known n ∷ []
-    split_is n ends end know =
-        sym (map-append side ends (end ∷ [])) ∙ know ∙ ap (map known) (below_more n) ∙ map-append known (below n) (n ∷ [])
-
   pub one_more : (n : ℕ) (w w' : List TableId) (s s' : List SourceOf) (t t' : List TargetOf) → AreWired starts n w s t
       → OneMore (starts n) w w' s s' t t' → AreWired starts (n + 1) w' s' t'
   one_more n w w' s s' t t' wired more = record {
@@ -76,12 +70,6 @@ module _ (w : List TableId) (table : TableId) (s : List SourceOf) (source : Sour
 
   target_seats : map target_table t ++ target.table ∷ [] ≡ w ++ table ∷ []
   target_seats = sym (map-append target_table t (target ∷ [])) ∙ seated.targets_are
-
-  pub source_here : source.table ≡ table
-  source_here = (same_from_push (map source_table s) w source.table table source_seats).1
-
-  pub target_here : target.table ≡ table
-  target_here = (same_from_push (map target_table t) w target.table table target_seats).1
 
   pub one_less : AreSeated w s t
   one_less = record {

@@ -1,5 +1,5 @@
 -- What a contract sees of a task, a watch, an entry or an exit beside its board, and what the turns of a task come to.
-use Rattle.std.specs.Prelude.{◌≡◌, ℕ, ◌<◌, List, [], ◌∷◌, Result, refl}
+use Rattle.std.specs.Prelude.{◌≡◌, ℕ, ◌<◌, List, [], Result, refl}
 use Rattle.std.proofs.Common.{◌∙◌, subst}
 use Rattle.flow_value.specs.declared.value.Value.{Value}
 use Rattle.flow_value.specs.declared.work.WorkFault.{WorkFault}
@@ -123,7 +123,3 @@ module _ {W : Type 0} {w : _} {e : _} where
     pub ended : turned.state ≡ Ended → HasEnded task
     pub rests : 0 < budget → turned.events ≡ 0 → Rests meaning task
 
-  -- all of them are at this board
-  abbrev pub AllAt : Board W → List (TaskAt W w e) → Type 0
-  AllAt board [] = Unit {0}
-  AllAt board (at ∷ all) = (board_at at ≡ board) × AllAt board all
