@@ -1,50 +1,64 @@
-"""The smallest runs of docs/worked-examples.md, as files: their networks, records and reports."""
+"""The rows of docs/worked-examples.md: their networks, records and reports in examples/rows."""
 
 import os
 import re
 
-from accept.examples import text_of
+from accept.examples import ALONE, SEVERAL, text_of
+from accept.shell import run
+from accept.tally import first_difference
 
 PAGE = "docs/worked-examples.md"
+FOLDER = "examples/rows"
 
-# Where their files are written.
-FOLDER = "out"
+# A line of the page's table: the name of a row, and the status of its run.
+ROW = re.compile(r"^\| `(\w+)` \| (\d) \|", re.M)
 
-# A network and records that the page names in words alone.
-TWO_RECORDS = """\
-format = 1
-block = [{name = "in", kind = "buffer", input = true}, {name = "out", kind = "action", work = []}]
-link = [{from = "in", to = "out", propagate = true}]
-%%
-in,a
-in,b
-"""
+# A run that is stopped before its first event: the network and records, the report, the limit and the status.
+STOPPED = "parse_three", "limit_zero", "0", 3
 
-SUFFIXES = ("toml", "csv", "report", "both")
+# The rows that are run while their streams fail, and of whose bytes each is cut or changed; and where both texts of one are written as one.
+SMALL = ("two_records", "parse_three")
+BOTH = "out"
 
 
-def blocks_of(page, heading):
-    """The texts that the page shows below a heading."""
-    section = page.partition(f"\n### {heading}\n")[2].partition("\n### ")[0]
-    return re.findall(r"^```\n(.*?)^```$", section, re.M | re.S)
+def path_of(name, suffix):
+    return f"{FOLDER}/{name}.{suffix}"
 
 
-def texts_of(page):
-    """Of each run its name, the network and the records with the line between them, and the report."""
-    report = blocks_of(page, "two records")[0]
-    yield "two_records", TWO_RECORDS, report
-    both, report = blocks_of(page, "parse three")
-    yield "parse_three", both, report
+def report_of(copy, name):
+    """The report of a row, or None where the order or the way of messages is open."""
+    path = path_of(name, "report")
+    return text_of(copy, path) if os.path.exists(os.path.join(copy, path)) else None
+
+
+def compare_row(part, copy, name, report, words, status):
+    command = f"bin/flow_run {path_of(name, 'toml')} {words} < {path_of(name, 'csv')}"
+    ended = run(command, copy)
+    pairs = [("status", status, ended.status)]
+    if report not in (None, ended.out):
+        pairs.append(("report", *first_difference(report, ended.out)))
+    part.compare(command, *pairs)
+
+
+def run_all(part, copy):
+    """Runs each row, with one worker and with several, and sees that the page names all of them."""
+    rows = ROW.findall(text_of(copy, PAGE))
+    files = {name[: -len(".toml")] for name in os.listdir(os.path.join(copy, FOLDER)) if name.endswith(".toml")}
+    part.compare(f"the rows of {PAGE}", ("names", sorted(files), sorted(name for name, _ in rows)))
+    for name, status in rows:
+        for workers in (ALONE, SEVERAL):
+            compare_row(part, copy, name, report_of(copy, name), workers, int(status))
+    name, report, limit, status = STOPPED
+    compare_row(part, copy, name, report_of(copy, report), f"{ALONE} {limit}", status)
 
 
 def write_rows(copy):
-    """Writes the files of each run, and answers their paths by what they are."""
+    """Writes the two texts of each small row as one, and answers the paths of its files by what they are."""
     rows = []
-    for name, both, report in texts_of(text_of(copy, PAGE)):
-        network, _, records = both.partition("%%\n")
-        paths = {suffix: f"{FOLDER}/{name}.{suffix}" for suffix in SUFFIXES}
-        for suffix, text in zip(SUFFIXES, (network, records, report, both)):
-            with open(os.path.join(copy, paths[suffix]), "w", encoding="utf-8") as file:
-                file.write(text)
+    for name in SMALL:
+        paths = {suffix: path_of(name, suffix) for suffix in ("toml", "csv", "report")}
+        paths["both"] = f"{BOTH}/{name}.both"
+        with open(os.path.join(copy, paths["both"]), "w", encoding="utf-8") as file:
+            file.write(text_of(copy, paths["toml"]) + "%%\n" + text_of(copy, paths["csv"]))
         rows.append(paths)
     return rows

@@ -4,7 +4,7 @@ import glob
 import os
 import re
 
-FOLDERS = ["docs", "examples", "examples/orders"]
+FOLDERS = ["docs", "examples", "examples/orders", "examples/rows"]
 
 # Scripts that run parts of records.
 SCRIPTS = ["examples/slurm/*.sh"]
