@@ -1,5 +1,5 @@
-"""A program of one's own: the folder that bin/new_program makes, and the samples of docs/from-tpl-dataflow.md, which stand in such a
-folder as one program. Neither is proved."""
+"""A program of one's own: the folder that bin/new_program makes, and the samples of docs/from-tpl-dataflow.md: functions, which stand in
+such a folder as one program, and the networks of examples/tpl. Nothing is proved."""
 
 import os
 import re
@@ -9,6 +9,7 @@ from accept.shell import path_without, run
 from accept.tally import first_difference
 
 PAGE = "docs/from-tpl-dataflow.md"
+NETWORKS = "examples/tpl"
 
 # How long a build without proof may take.
 SECONDS = 1800
@@ -34,6 +35,9 @@ FENCE = re.compile(r"^```(\w+)\n(.*?)^```$", re.M | re.S)
 
 # A function of the page, which is given the runtime of `main`, or borrows it.
 FUNCTION = re.compile(r"^fn (\w+)(?:<[^>]*>)?\(\s*rt: (&?)\w+,?\s*\)", re.M)
+
+# The network of a section.
+NETWORK = re.compile(rf"\(\.\./{NETWORKS}/(\w+)\.toml\)")
 
 # Where the page says so, a network is run with so many workers too.
 SEVERAL = "with 4 workers as with 1"
@@ -94,22 +98,20 @@ def sections_of(page):
             yield heading, text, blocks
 
 
-def run_networks(part, copy, room):
-    """Runs each network of the page over the records beside it."""
-    folder = os.path.join(room, "samples")
-    os.mkdir(folder)
-    for heading, text, blocks in sections_of(text_of(copy, PAGE)):
-        if "toml" not in blocks:
-            continue
-        name = re.sub(r"\W+", "_", heading.lower())
-        for end in ("toml", "csv"):
-            with open(os.path.join(folder, f"{name}.{end}"), "w", encoding="utf-8") as file:
-                file.write("".join(blocks.get(end, [])))
-        status = STATUS.search(text)
-        wanted = "".join(blocks.get("report", [])) or None, int(status.group(1)) if status else None
-        for workers in (1, 4) if SEVERAL in text else (1,):
-            command = f"bin/flow_run ../samples/{name}.toml {workers} < ../samples/{name}.csv"
-            compare_report(part, command, wanted, run(command, copy))
+def run_networks(part, copy):
+    """Runs the network of each section over its records, and sees that the page names all networks."""
+    seen = []
+    for _, text, _ in sections_of(text_of(copy, PAGE)):
+        said = " ".join(text.split())
+        for name in NETWORK.findall(said):
+            seen.append(name)
+            path, status = f"{NETWORKS}/{name}", STATUS.search(said)
+            wanted = text_of(copy, f"{path}.report"), int(status.group(1)) if status else None
+            for workers in (1, 4) if SEVERAL in said else (1,):
+                command = f"bin/flow_run {path}.toml {workers} < {path}.csv"
+                compare_report(part, command, wanted, run(command, copy))
+    files = {name[: -len(".toml")] for name in os.listdir(os.path.join(copy, NETWORKS)) if name.endswith(".toml")}
+    part.compare(f"the networks of {PAGE}", ("names", sorted(files), sorted(seen)))
 
 
 def program_of(page):
@@ -155,5 +157,5 @@ def pieces_of(printed):
 
 
 def run_samples(part, copy, room, logs):
-    run_networks(part, copy, room)
+    run_networks(part, copy)
     run_program(part, copy, room, logs)

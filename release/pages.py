@@ -4,7 +4,7 @@ import glob
 import os
 import re
 
-FOLDERS = ["docs", "examples", "examples/orders", "examples/rows"]
+FOLDERS = ["docs", "examples", "examples/orders", "examples/rows", "examples/tpl"]
 
 # Scripts that run parts of records.
 SCRIPTS = ["examples/slurm/*.sh"]
