@@ -121,8 +121,6 @@ def faults_of(tree, page):
             faults += missing_functions(tree, code, meant(tree, page, text, set()))
     if page == "README.md":
         faults += other_example(tree, text)
-    if page == "docs/past-one-machine.md":
-        faults += other_scripts(tree, text)
     return faults
 
 
@@ -196,14 +194,6 @@ def other_example(tree, text):
     if shown is None or not tree.has(path) or shown.group(1) != program_of(tree.text(path)):
         return [f"the program is not that of {path}"]
     return []
-
-
-def other_scripts(tree, text):
-    """The page shows each script of examples/slurm as it stands."""
-    shown = [code for language, code in FENCE.findall(text) if language == "sh"]
-    paths = sorted(glob.glob(os.path.join(tree.top, "examples", "slurm", "*.sh")))
-    written = [tree.text(os.path.relpath(path, tree.top)) for path in paths]
-    return [] if sorted(shown) == sorted(written) else ["its scripts are not those of examples/slurm"]
 
 
 def program_of(module):
