@@ -51,4 +51,3 @@ rests_tell block exits copies = by (shares block)
     by : (one : Bool) → NothingOut (source_by one block)
     by true = over_exits block.exits exits
     by false = over_copies block.copies copies
-

@@ -17,7 +17,6 @@ if_err P Q so (Ok a) is = tt
 if_err P Q so (Err e) is = so e is
 
 module _ {W : Type 0} {w : _} {e : _} where
-
   -- tasks that came and went come back
   pub comes_back : (board : Board W) (old new : List (Task W w e)) → SameNumbers old new → AllIn (Some board) (journals old) new
       → ComeBack board old new

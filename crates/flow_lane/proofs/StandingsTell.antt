@@ -56,7 +56,6 @@ module _ {J S : Type 0} (ticket_of : J → ℕ) where
       (finds_is ticket_of (block_in me.0).stage p ∙ ap (option_map (λ (s : Standing). looked_at s p)) was)
 
 module _ {W : Type 0} where
-
   pub ended_is : (b : BlockStage (JobState W)) (s : Standing) → standing_of state_ticket b ≡ Some s → is_ended b ≡ stands_ended s
   ended_is BlockStage.free s told = ap (λ (o : Option Standing). stands_ended (unwrap_or o s)) told
   ended_is BlockStage.filling s told = absurd (cc)

@@ -109,7 +109,6 @@ module _ {W : Type 0} (meaning : W → Value → Result (List Value) WorkFault) 
   -- Where the network is in order
 
   module _ (kept : ∥ NetKeeps layout (works_of meaning layout) net ∥₁) (b : ℕ) (low : b < length layout.blocks) where
-
     -- its state
     state_in : NodeLaw layout (works_of meaning layout) b (node_at net b)
         → state_by run b ≡ state_told (node_at net b).block.stopped (is_complete (node_at net b).block)

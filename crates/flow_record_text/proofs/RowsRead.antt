@@ -126,4 +126,3 @@ module _ {R : Type 0} (known : R → Option (List ℕ)) (names : List (List ℕ)
         so_far.fine,
         subst (λ n. HasFault names n row fault) (next-number number _ (length so_far.rows) so_far.count refl) why,
       )
-

@@ -75,4 +75,3 @@ pub picked_yields : {S A B C D F : Type 0} {steps : S → Option A → S → Typ
     → YieldsList (filter_map_steps steps g) w s (picked ys)
 picked_yields {steps = steps} {v = v} {ys = ys} {s = s} {f = f} w g picked from same nothing calls =
     record { runs = yields_picked steps v w g picked f nothing calls (picked ys) ys s same refl from.runs }
-

@@ -170,4 +170,3 @@ module _ (text : List ℕ) (records : Option (List ℕ)) where
       → IsUnreported text records workers limit (refusal_of refusal)
   no_report workers limit refusal is h =
       subst (λ (r : TextRefusal). IsUnreported text records workers limit (refusal_of r)) (sym is) (inr h)
-

@@ -190,4 +190,3 @@ goes_further first mid last head tail = record {
 }
 
 -- What a receive answers
-

@@ -133,4 +133,3 @@ rest_of_some budget count makes node lanes (Ok turned) rest =
 rest_of_some budget count makes node lanes (Err fault) rest = tt
 
 -- The state
-

@@ -74,4 +74,3 @@ does_grows ends makes (Ok false) old new does = ap marks_of does
 does_grows ends makes (Err fault) old new does = ap marks_of does
 
 -- Step after step
-

@@ -122,4 +122,3 @@ module _ {W : Type 0} {w : _} {e : _} where
     pub moved : 0 < turned.events → turned.state ≡ Moved
     pub ended : turned.state ≡ Ended → HasEnded task
     pub rests : 0 < budget → turned.events ≡ 0 → Rests meaning task
-
