@@ -10,8 +10,9 @@ use std::thread::Threads;
 use std::time::Clock;
 use std::vec::IntoIter;
 
-/// Two inputs into one exit, and what they say of themselves.
-const TWO: &str = "a* buffer, b* buffer, t transform(add 10) output true, a => t, b => t";
+/// Two inputs into one exit, and what they say of themselves. Neither link propagates: else what the one input still has would be refused
+/// where the other ends first.
+const TWO: &str = "a* buffer, b* buffer, t transform(add 10) output true, a -> t, b -> t";
 
 const TWO_OPEN: &str = "a? b?";
 
