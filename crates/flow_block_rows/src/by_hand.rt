@@ -95,29 +95,25 @@ fn bring_to(
     ensures block { block.new.table ≡ block.old.table }
     ensures lane { side.new.table ≡ side.old.table }
 {
-    match phase {
-        LanePhase::Free => {
-            put(rt, alloc, lane, block);
-            work_off(rt, alloc, lane, side);
-            fetch(rt, lane, block);
-            clear(rt, lane, block);
-        }
-        LanePhase::Job => put(rt, alloc, lane, block),
-        LanePhase::Working => {
-            put(rt, alloc, lane, block);
-            open(rt, lane, side);
-        }
-        LanePhase::Result => {
-            put(rt, alloc, lane, block);
-            work_off(rt, alloc, lane, side);
-        }
-        LanePhase::Fetching => {
-            put(rt, alloc, lane, block);
-            work_off(rt, alloc, lane, side);
-            fetch(rt, lane, block);
-        }
-        LanePhase::Ended => end(rt, lane, block),
+    if phase == LanePhase::Ended {
+        return end(rt, lane, block);
     }
+    put(rt, alloc, lane, block);
+    if phase == LanePhase::Job {
+        return;
+    }
+    if phase == LanePhase::Working {
+        return open(rt, lane, side);
+    }
+    work_off(rt, alloc, lane, side);
+    if phase == LanePhase::Result {
+        return;
+    }
+    fetch(rt, lane, block);
+    if phase == LanePhase::Fetching {
+        return;
+    }
+    clear(rt, lane, block);
 }
 
 /// A lane that is not free takes no job.
@@ -180,14 +176,11 @@ fn closes_at(rt: &impl Abort, alloc: Global, phase: LanePhase, at: &str) {
 
 #[test]
 fn a_closed_lane_gives_what_is_in_it(rt: HostRuntime) {
-    for (phase, at) in [
-        (LanePhase::Free, "free"),
-        (LanePhase::Job, "job"),
-        (LanePhase::Working, "working"),
-        (LanePhase::Result, "result"),
-        (LanePhase::Fetching, "fetching"),
-        (LanePhase::Ended, "ended"),
-    ] {
-        closes_at(&rt, rt.alloc(), phase, at);
-    }
+    let (rt, alloc) = (&rt, rt.alloc());
+    closes_at(rt, alloc, LanePhase::Free, "free");
+    closes_at(rt, alloc, LanePhase::Job, "job");
+    closes_at(rt, alloc, LanePhase::Working, "working");
+    closes_at(rt, alloc, LanePhase::Result, "result");
+    closes_at(rt, alloc, LanePhase::Fetching, "fetching");
+    closes_at(rt, alloc, LanePhase::Ended, "ended");
 }

@@ -9,7 +9,7 @@ ghost use Rattle.flow_block.specs.BlockFits.{fresh_block};
 ghost use Rattle.flow_block_rows.specs.Driven.{Rests, two_ports, link_to};
 
 use crate::script::{does, takes};
-use crate::shared::{header, link, tells};
+use crate::shared::{header, one_rule, tells, two_rules};
 use flow_block::Block;
 use flow_intake::Intake;
 use flow_link::{BlockKind, DataflowBlock, LinkId, Outcome, SourceBlock, TargetBlock};
@@ -45,9 +45,7 @@ fn join(rt: &impl Abort, alloc: Global) -> Block
     ensures { result ≡ fresh_block kind.Join 1 0 two_ports (link_to 7 ∷ []) }
 {
     let ports = ports(rt, alloc);
-    let Ok(rules) = vec![in alloc; link(7)] else {
-        panic!(rt; "out of memory");
-    };
+    let rules = one_rule(rt, alloc, 7);
     let Ok(join) = Block::new(alloc, BlockKind::Join, 1, 0, ports, rules) else {
         panic!(rt; "out of memory");
     };
@@ -70,9 +68,7 @@ pub(crate) fn block(
     let Ok(ports) = vec![in alloc; port] else {
         panic!(rt; "out of memory");
     };
-    let Ok(rules) = vec![in alloc; link(7), link(8)] else {
-        panic!(rt; "out of memory");
-    };
+    let rules = two_rules(rt, alloc, 7, 8);
     let Ok(block) = Block::new(alloc, kind, 1, size, ports, rules) else {
         panic!(rt; "out of memory");
     };

@@ -1,9 +1,9 @@
 //! A port by itself, where the test plays the far ends of its links.
 use crate::check::check;
-use crate::shared::header;
+use crate::shared::{header, text};
 use flow_intake::Intake;
 use flow_link::LinkId;
-use flow_value::{MessageHeader, MessageStatus, Parcel, Text, Value};
+use flow_value::{MessageHeader, MessageStatus, Parcel, Value};
 use std::alloc::Global;
 use std::process::Abort;
 
@@ -15,43 +15,52 @@ fn answers(
     may_postpone: bool,
     status: MessageStatus,
 ) {
-    assert!(rt; port.is_free_over(link), "link {link} is not free");
+    if !port.is_free_over(link) {
+        panic!(rt; "the link is not free");
+    }
     let Ok(answer) = port.answer(link, header(rt, 1), may_postpone) else {
         panic!(rt; "out of memory");
     };
-    assert!(rt; answer == status, "another answer over link {link}");
+    if answer != status {
+        panic!(rt; "it answers otherwise");
+    }
 }
 
-/// The text arrives over a link that it is wanted from.
-fn arrives(rt: &impl Abort, alloc: Global, port: &mut Intake, link: LinkId, text: &str) {
-    let Ok(text) = Text::from_str(alloc, text) else {
-        panic!(rt; "out of memory");
-    };
-    let Ok(parcel) = Parcel::new(alloc, Value::Text(text)) else {
+/// A text arrives over a link that it is wanted from.
+fn arrives(rt: &impl Abort, alloc: Global, port: &mut Intake, link: LinkId, words: &str) {
+    let Ok(parcel) = Parcel::new(alloc, Value::Text(text(rt, alloc, words))) else {
         panic!(rt; "out of memory");
     };
     if !port.is_wanted_over(link) {
-        panic!(rt; "nothing is wanted over link {link}");
+        panic!(rt; "nothing is wanted over the link");
     }
     port.arrive(link, parcel);
 }
 
 /// The text that waits longest is exchanged for the number.
 fn swaps(rt: &impl Abort, port: &mut Intake, text: &str, number: i64) {
-    assert!(rt; !port.waiting().is_empty(), "nothing waits");
+    if port.waiting().is_empty() {
+        panic!(rt; "nothing waits");
+    }
     let value = port.swap_first(Value::Int(number));
-    assert!(rt; value.as_str() == Some(text), "something else waits");
+    if value.as_str() != Some(text) {
+        panic!(rt; "something else waits");
+    }
 }
 
 /// An offer over a link is withdrawn.
 fn withdraw(rt: &impl Abort, port: &mut Intake, link: LinkId) {
-    assert!(rt; port.may_drop(link), "no offer waits over link {link}");
+    if !port.may_drop(link) {
+        panic!(rt; "no offer waits over the link");
+    }
     port.drop_postponed(link);
 }
 
 /// The room of some messages comes back.
 fn give_room(rt: &impl Abort, port: &mut Intake, count: usize) {
-    assert!(rt; count <= port.room_out(), "so much room is not out");
+    if count > port.room_out() {
+        panic!(rt; "so much room is not out");
+    }
     port.give_room(count);
 }
 

@@ -1,44 +1,36 @@
 //! Blocks with functions, by the calls that all blocks have in common. The test begins their jobs, and brings the results
-//! back.
+//! back. A lane takes one of them at a time.
 ghost use Rattle.flow_block.specs.Traits.{target_over};
 ghost use Rattle.flow_block_rows.specs.Driven.{Rests};
 
 use crate::check::check;
 use crate::script::takes;
-use crate::shared::{are, has_left, link};
-use flow_exec::{EndFault, Execution, JobResult};
+use crate::shared::{are, has_left, one_rule};
+use flow_exec::{EndFault, Execution, Job, JobResult};
+use flow_lane::{Lane, LaneItem, LanePhase, LaneState};
 use flow_link::BlockKind;
-use flow_outlet::LinkRule;
 use flow_value::Steps;
 use std::alloc::Global;
 use std::process::Abort;
 use std::sync::Arc;
 
 /// The function with this one step.
-fn function(rt: &impl Abort, alloc: Global, step: &str) -> Option<Arc<Steps, Global>> {
+pub(crate) fn one_step(rt: &impl Abort, alloc: Global, step: &str) -> Arc<Steps, Global> {
     let Ok(steps) = Steps::read(alloc, &[step]) else {
         panic!(rt; "it is no step");
     };
     let Ok(work) = Arc::new(alloc, steps) else {
         panic!(rt; "out of memory");
     };
-    Some(work)
-}
-
-/// Link 7, out of a block.
-fn link_out(rt: &impl Abort, alloc: Global) -> Vec<LinkRule> {
-    let Ok(rules) = vec![in alloc; link(7)] else {
-        panic!(rt; "out of memory");
-    };
-    rules
+    work
 }
 
 /// A transform with two lanes, which reads integers.
 fn transform(rt: &impl Abort, alloc: Global) -> Execution<Steps>
     ensures { Rests (target_over result.block.ports) }
 {
-    let work = function(rt, alloc, "int");
-    let Ok(transform) = Execution::transform(alloc, 2, None, work, link_out(rt, alloc)) else {
+    let work = Some(one_step(rt, alloc, "int"));
+    let Ok(transform) = Execution::transform(alloc, 2, None, work, one_rule(rt, alloc, 7)) else {
         panic!(rt; "out of memory");
     };
     transform
@@ -48,7 +40,7 @@ fn transform(rt: &impl Abort, alloc: Global) -> Execution<Steps>
 fn action(rt: &impl Abort, alloc: Global) -> Execution<Steps>
     ensures { Rests (target_over result.block.ports) }
 {
-    let work = function(rt, alloc, "int");
+    let work = Some(one_step(rt, alloc, "int"));
     let Ok(action) = Execution::action(alloc, 1, Some(1), work, Vec::new(alloc)) else {
         panic!(rt; "out of memory");
     };
@@ -59,11 +51,30 @@ fn action(rt: &impl Abort, alloc: Global) -> Execution<Steps>
 fn transform_many(rt: &impl Abort, alloc: Global) -> Execution<Steps>
     ensures { Rests (target_over result.block.ports) }
 {
-    let rules = link_out(rt, alloc);
+    let rules = one_rule(rt, alloc, 7);
     let Ok(many) = Execution::transform_many(alloc, 1, None, None, rules) else {
         panic!(rt; "out of memory");
     };
     many
+}
+
+/// The job that the block begins next, which has this ticket.
+fn begin(rt: &impl Abort, alloc: Global, block: &mut Execution<Steps>, ticket: u64) -> Job<Steps> {
+    let Ok(Some(job)) = block.begin(alloc) else {
+        panic!(rt; "no job begins");
+    };
+    if job.ticket() != ticket || !block.is_own_job(&job) {
+        panic!(rt; "it is another job");
+    }
+    job
+}
+
+/// What comes of a job.
+fn run(rt: &impl Abort, alloc: Global, job: Job<Steps>) -> JobResult<Steps> {
+    let Ok(done) = job.run(alloc) else {
+        panic!(rt; "out of memory");
+    };
+    done
 }
 
 /// The result of the job that the block begins next, which has this ticket.
@@ -73,16 +84,8 @@ fn run_next(
     block: &mut Execution<Steps>,
     ticket: u64,
 ) -> JobResult<Steps> {
-    let Ok(Some(job)) = block.begin(alloc) else {
-        panic!(rt; "no job begins");
-    };
-    if job.ticket() != ticket || !block.is_own_job(&job) {
-        panic!(rt; "it is another job");
-    }
-    let Ok(done) = job.run(alloc) else {
-        panic!(rt; "out of memory");
-    };
-    done
+    let job = begin(rt, alloc, block, ticket);
+    run(rt, alloc, job)
 }
 
 /// The block takes the result back.
@@ -93,7 +96,7 @@ fn bring_back(rt: &impl Abort, block: &mut Execution<Steps>, done: JobResult<Ste
 }
 
 /// The block takes a message and works on it, as its first job.
-fn work_on(rt: &(impl Abort + Print), alloc: Global, block: &mut Execution<Steps>, message: &str)
+fn work_on(rt: &impl Abort, alloc: Global, block: &mut Execution<Steps>, message: &str)
     requires { Rests (target_over block.old.block.ports) }
 {
     takes(rt, alloc, block, message);
@@ -109,7 +112,7 @@ fn begins_none(rt: &impl Abort, alloc: Global, block: &mut Execution<Steps>) {
 }
 
 /// The result of the second job of a block that is equal to the transform.
-fn second_result(rt: &(impl Abort + Print), alloc: Global) -> JobResult<Steps> {
+fn second_result(rt: &impl Abort, alloc: Global) -> JobResult<Steps> {
     let mut equal = transform(rt, alloc);
     takes(rt, alloc, &mut equal, "0 '1, 0 '2");
     run_next(rt, alloc, &mut equal, 0);
@@ -175,4 +178,52 @@ fn gives_text(block: &Execution<Steps>, content: &str) -> bool {
         Some(value) => value.as_str() == Some(content),
         None => false,
     }
+}
+
+/// A lane that is closed after two jobs were put, of which the second came back.
+fn closed_after_two(
+    rt: &impl Abort,
+    alloc: Global,
+    first: Job<Steps>,
+    second: Job<Steps>,
+) -> LaneState<Steps> {
+    let Ok((lane, mut block, side)) = Lane::new(alloc) else {
+        panic!(rt; "out of memory");
+    };
+    let Ok(()) = block.put(&lane, first) else {
+        panic!(rt; "a free lane takes no job");
+    };
+    let Err(back) = block.put(&lane, second) else {
+        panic!(rt; "a lane takes two jobs");
+    };
+    if back.ticket() != 1 {
+        panic!(rt; "another job comes back");
+    }
+    lane.close(block, side)
+}
+
+/// The job that a closed lane has.
+fn job_in(rt: &impl Abort, left: LaneState<Steps>) -> Job<Steps> {
+    let LaneState { phase, slot } = left;
+    if phase != LanePhase::Job {
+        panic!(rt; "the lane is at another phase");
+    }
+    match slot {
+        Some(LaneItem::Job(job)) => job,
+        Some(LaneItem::Result(_)) | None => panic!(rt; "the lane has no job"),
+    }
+}
+
+#[test]
+fn a_second_put_into_a_lane_gives_the_job_back(rt: HostRuntime) {
+    let (rt, alloc) = (&rt, rt.alloc());
+    let mut block = transform(rt, alloc);
+    takes(rt, alloc, &mut block, "0 '5, 0 '6");
+    let first = begin(rt, alloc, &mut block, 0);
+    let second = begin(rt, alloc, &mut block, 1);
+    let job = job_in(rt, closed_after_two(rt, alloc, first, second));
+    check(rt, "its ticket", job.ticket() == 0);
+    let done = run(rt, alloc, job);
+    bring_back(rt, &mut block, done);
+    check(rt, "what is left", has_left(block.left(), &[5]));
 }

@@ -1,4 +1,5 @@
 //! The jobs that the tests of lanes put, and what comes of them. The function gives three times a number, and faults on a text.
+use crate::jobs::one_step;
 use flow_exec::{Job, JobResult};
 use flow_link::BlockKind;
 use flow_value::{Steps, Text, Value};
@@ -9,14 +10,9 @@ use std::sync::Arc;
 /// The fault of a step that wants a number.
 const NOT_INT: u32 = 1;
 
+/// The function that gives three times a number.
 pub(crate) fn function(rt: &impl Abort, alloc: Global) -> Arc<Steps, Global> {
-    let Ok(steps) = Steps::read(alloc, &["mul 3"]) else {
-        panic!(rt; "it is no step");
-    };
-    let Ok(work) = Arc::new(alloc, steps) else {
-        panic!(rt; "out of memory");
-    };
-    work
+    one_step(rt, alloc, "mul 3")
 }
 
 /// Whether the job with this ticket is of a text, as every tenth is.

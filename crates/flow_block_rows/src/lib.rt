@@ -31,8 +31,6 @@ mod reserving;
 #[cfg(test)]
 mod script;
 #[cfg(test)]
-mod second_put;
-#[cfg(test)]
 mod shared;
 #[cfg(test)]
 mod shared_lanes;

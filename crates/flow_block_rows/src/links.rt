@@ -1,13 +1,13 @@
 //! Links of plans, with what no text says of them, and how far a message has come over one.
 use crate::check::check;
-use crate::shared::header;
+use crate::shared::{header, text};
 use flow_link::{
     BlockDef, BlockKind, Draft, Ending, Link, LinkDef, LinkEnd, LinkSource, LinkTarget, Mark, Move,
     Phase, Place, Plan, PlanFault, PlanRefusal, Posted, are_numbered, phase_of, plan_check,
     step_of, word_of,
 };
-use flow_value::{Steps, Text, When};
-use std::alloc::{AllocError, Global};
+use flow_value::{Steps, When};
+use std::alloc::Global;
 use std::mem::size_of;
 use std::process::Abort;
 
@@ -45,41 +45,39 @@ const WRONG: &[(&str, Options, PlanFault)] = &[
 
 /// A block and a buffer, of which the first is an input and linked to the second.
 fn draft(rt: &impl Abort, alloc: Global, options: &Options) -> Draft<Steps> {
-    let Ok(draft) = try_draft(alloc, options) else {
-        panic!(rt; "out of memory");
-    };
-    draft
-}
-
-fn try_draft(alloc: Global, options: &Options) -> Result<Draft<Steps>, AllocError> {
     let (source, port, capacity, when) = *options;
-    let blocks = vec![in alloc;
-        block(alloc, "a", source, true, capacity)?,
-        block(alloc, "b", BlockKind::Buffer, false, capacity)?,
-    ]?;
-    let links = vec![in alloc; link(alloc, port, when)?]?;
-    Ok(Draft { blocks, links })
+    let mut first = block(rt, alloc, "a", source, capacity);
+    first.input = true;
+    let mut blocks = Vec::new(alloc);
+    assert!(rt; blocks.push(first).is_ok());
+    assert!(rt;
+        blocks
+            .push(block(rt, alloc, "b", BlockKind::Buffer, capacity))
+            .is_ok()
+    );
+    let mut links = Vec::new(alloc);
+    assert!(rt; links.push(link(rt, alloc, port, when)).is_ok());
+    Draft { blocks, links }
 }
 
 fn block(
+    rt: &impl Abort,
     alloc: Global,
     name: &str,
     kind: BlockKind,
-    input: bool,
     capacity: Option<u32>,
-) -> Result<BlockDef<Steps>, AllocError> {
-    let mut block = BlockDef::new(Text::from_str(alloc, name)?, kind);
-    block.input = input;
+) -> BlockDef<Steps> {
+    let mut block = BlockDef::new(text(rt, alloc, name), kind);
     block.capacity = capacity;
-    Ok(block)
+    block
 }
 
-fn link(alloc: Global, port: Option<u32>, when: Option<When>) -> Result<LinkDef, AllocError> {
-    let mut link = LinkDef::between(alloc, "a", "b")?;
+fn link(rt: &impl Abort, alloc: Global, port: Option<u32>, when: Option<When>) -> LinkDef {
+    let mut link = LinkDef::new(text(rt, alloc, "a"), text(rt, alloc, "b"));
     link.port = port;
     link.when = when;
     link.propagate = true;
-    Ok(link)
+    link
 }
 
 /// The plan of a draft with which nothing is wrong.
@@ -102,26 +100,22 @@ fn a_refused_draft_comes_back(rt: HostRuntime) {
     }
 }
 
-/// So many buffers that all have one name.
-fn namesakes(alloc: Global, count: u32) -> Result<Draft<Steps>, AllocError> {
-    let mut blocks = Vec::new(alloc);
-    for _ in 0..count {
-        blocks.push(BlockDef::new(Text::from_str(alloc, "a")?, BlockKind::Buffer))?;
-    }
-    let links = Vec::new(alloc);
-    Ok(Draft { blocks, links })
-}
-
 /// So many buffers that all have one name make no plan, for this.
 fn are_refused(rt: &impl Abort, alloc: Global, count: u32, fault: PlanFault) {
-    let Ok(draft) = namesakes(alloc, count) else {
-        panic!(rt; "out of memory");
-    };
-    let Err((_back, refusal)) = plan_check(alloc, draft) else {
-        panic!(rt; "{count} make a plan");
+    let mut blocks = Vec::new(alloc);
+    for _ in 0..count {
+        assert!(rt;
+            blocks
+                .push(block(rt, alloc, "a", BlockKind::Buffer, None))
+                .is_ok()
+        );
+    }
+    let links = Vec::new(alloc);
+    let Err((_back, refusal)) = plan_check(alloc, Draft { blocks, links }) else {
+        panic!(rt; "they make a plan");
     };
     if refusal != PlanRefusal::Fault(fault) {
-        panic!(rt; "{count} are refused for something else");
+        panic!(rt; "they are refused for something else");
     }
 }
 
@@ -216,20 +210,28 @@ fn posted(alloc: Global, ending: Ending) -> Posted {
     Posted { values, ending }
 }
 
+/// Asserts that a phase has this word, and the word this phase.
+fn has_word(rt: &impl Abort, phase: Phase, word: u64) {
+    assert!(rt;
+        word_of(phase) == word && phase_of(word) == Some(phase),
+        "{word}"
+    );
+}
+
 #[test]
 fn phases_have_their_words(rt: HostRuntime) {
-    let one = header(&rt, 1);
-    for (phase, word) in [
-        (Phase::Idle, 0),
-        (Phase::Wanted(one), 2_305_843_009_213_693_953),
-        (Phase::Refused, 5_188_146_770_730_811_392),
-        (Phase::Ended(LinkEnd::Fault(7)), 6_917_529_027_641_081_863),
-    ] {
-        assert!(rt;
-            word_of(phase) == word && phase_of(word) == Some(phase),
-            "{word}"
-        );
-    }
+    has_word(&rt, Phase::Idle, 0);
+    has_word(
+        &rt,
+        Phase::Wanted(header(&rt, 1)),
+        2_305_843_009_213_693_953,
+    );
+    has_word(&rt, Phase::Refused, 5_188_146_770_730_811_392);
+    has_word(
+        &rt,
+        Phase::Ended(LinkEnd::Fault(7)),
+        6_917_529_027_641_081_863,
+    );
     // A message needs an id, a fault has a number that is not too great, and there are thirteen kinds of phase.
     check(&rt, "no id", phase_of(2_305_843_009_213_693_952).is_none());
     check(
@@ -244,26 +246,26 @@ fn phases_have_their_words(rt: HostRuntime) {
     );
 }
 
+/// The phase to which this move leads, by which the first message stays under way or is there. A link that is refused does not move.
+fn moved(rt: &impl Abort, phase: Phase, step: Move) -> Phase {
+    assert!(rt; step_of(Phase::Refused, step).is_none());
+    let Some(next) = step_of(phase, step) else {
+        panic!(rt; "it is not allowed");
+    };
+    assert!(rt; next == Phase::Idle || next.id() == Some(header(rt, 1)));
+    next
+}
+
 #[test]
 fn a_message_crosses(rt: HostRuntime) {
-    let one = header(&rt, 1);
-    let mut phase = Phase::Idle;
-    for step in [
-        Move::Offer(one),
-        Move::Postpone,
-        Move::Ask,
-        Move::Hold,
-        Move::Claim,
-        Move::Give,
-        Move::Open,
-        Move::Close,
-    ] {
-        assert!(rt; step_of(Phase::Refused, step).is_none());
-        let Some(next) = step_of(phase, step) else {
-            panic!(&rt; "it is not allowed");
-        };
-        phase = next;
-        assert!(rt; phase == Phase::Idle || phase.id() == Some(one));
-    }
+    let rt = &rt;
+    let phase = moved(rt, Phase::Idle, Move::Offer(header(rt, 1)));
+    let phase = moved(rt, phase, Move::Postpone);
+    let phase = moved(rt, phase, Move::Ask);
+    let phase = moved(rt, phase, Move::Hold);
+    let phase = moved(rt, phase, Move::Claim);
+    let phase = moved(rt, phase, Move::Give);
+    let phase = moved(rt, phase, Move::Open);
+    let phase = moved(rt, phase, Move::Close);
     assert!(rt; phase == Phase::Idle);
 }

@@ -1,5 +1,5 @@
 //! An outlet by itself, with the test in the place of its targets.
-use crate::shared::{are, has_left, header, link};
+use crate::shared::{are, has_left, header, two_rules};
 use flow_link::LinkId;
 use flow_outlet::{Outlet, OutletFault};
 use flow_value::{MAX_ID, MessageHeader, MessageStatus, Parcel, Value};
@@ -110,9 +110,7 @@ struct Case {
 impl Case {
     fn new(rt: &impl Abort, alloc: Global, first: u64) -> Case {
         let first = header(rt, first);
-        let Ok(rules) = vec![in alloc; link(0), link(1)] else {
-            panic!(rt; "out of memory");
-        };
+        let rules = two_rules(rt, alloc, 0, 1);
         let Ok(outlet) = Outlet::new(alloc, rules, first) else {
             panic!(rt; "out of memory");
         };
@@ -231,11 +229,15 @@ fn number_in(parcel: &Parcel) -> Done {
 /// Does these calls with an outlet whose first message has this id.
 fn does_all(rt: &impl Abort, alloc: Global, first: u64, calls: &[(Call, Done)]) {
     let mut case = Case::new(rt, alloc, first);
-    for (number, (call, due)) in calls.iter().enumerate() {
+    let mut number = 0u64;
+    for (call, due) in calls {
         let Ok(done) = case.act(alloc, call) else {
             panic!(rt; "out of memory");
         };
-        assert!(rt; done == *due, "call {number} comes to something else");
+        if done != *due {
+            panic!(rt; "call {number} comes to something else");
+        }
+        number = number.saturating_add(1);
     }
 }
 

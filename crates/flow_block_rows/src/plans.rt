@@ -1,31 +1,39 @@
 //! Small plans: a block between the buffers before it and those behind it.
-ghost use Rattle.std.specs.Prelude.{◌≡◌, ◌<◌, ℕ, false, length, true};
+ghost use Rattle.std.specs.Prelude.{◌≡◌, ◌<◌, length};
 ghost use Rattle.flow_link.specs.Plan.{block_in, is_reserving};
 ghost use Rattle.flow_link.specs.Planned.{layout_of};
 ghost use Rattle.flow_block.specs.Traits.{target_over};
 ghost use Rattle.flow_block_rows.specs.Driven.{Rests};
 
+use crate::shared::text;
 use flow_kinds::kind::{Kind, WorkKind};
 use flow_kinds::{BatchedJoin, ReservingJoin, TypedBlock, TypedExecution};
 use flow_link::{BlockDef, BlockKind, Draft, LinkDef, Plan, plan_check};
-use flow_value::{Steps, Text};
-use std::alloc::{AllocError, Global};
+use flow_value::Steps;
+use std::alloc::Global;
 use std::process::Abort;
 
 /// The number of the block in the middle.
 const MIDDLE: usize = 2;
 
 /// A link between the blocks with these names, into this port.
-fn link(alloc: Global, from: &str, to: &str, port: u32) -> Result<LinkDef, AllocError> {
-    let mut link = LinkDef::new(Text::from_str(alloc, from)?, Text::from_str(alloc, to)?);
+fn link(rt: &impl Abort, alloc: Global, from: &str, to: &str, port: u32) -> LinkDef {
+    let mut link = LinkDef::new(text(rt, alloc, from), text(rt, alloc, to));
     link.port = Some(port);
-    Ok(link)
+    link
+}
+
+fn buffer(rt: &impl Abort, alloc: Global, name: &str) -> BlockDef<Steps> {
+    BlockDef::new(text(rt, alloc, name), BlockKind::Buffer)
 }
 
 /// The block in the middle: with rows of two messages, or with a function that reads integers in two lanes, where its
-/// kind has these.
-fn middle(alloc: Global, kind: BlockKind) -> Result<BlockDef<Steps>, AllocError> {
-    let mut block = BlockDef::new(Text::from_str(alloc, "middle")?, kind);
+/// kind has these. A join reserves its messages if it is to.
+fn middle(rt: &impl Abort, alloc: Global, kind: BlockKind, reserving: bool) -> BlockDef<Steps> {
+    let mut block = BlockDef::new(text(rt, alloc, "middle"), kind);
+    if reserving {
+        block.greedy = Some(false);
+    }
     match kind {
         BlockKind::Batch | BlockKind::BatchedJoin => block.size = Some(2),
         BlockKind::Action | BlockKind::Transform | BlockKind::TransformMany => {
@@ -34,91 +42,52 @@ fn middle(alloc: Global, kind: BlockKind) -> Result<BlockDef<Steps>, AllocError>
         }
         BlockKind::Buffer | BlockKind::Broadcast | BlockKind::WriteOnce | BlockKind::Join => {}
     }
-    Ok(block)
+    block
 }
 
 /// Links 0 and 1 lead from the first two blocks into the one in the middle, into its two ports where it has two. Links 2
 /// and 3 lead from there to the last two blocks, unless it is an action.
-fn draft(alloc: Global, kind: BlockKind) -> Result<Draft<Steps>, AllocError> {
-    let mut draft = Draft {
-        blocks: Vec::new(alloc),
-        links: Vec::new(alloc),
-    };
-    add_blocks(alloc, kind, &mut draft.blocks)?;
-    add_links(alloc, kind, &mut draft.links)?;
-    Ok(draft)
-}
-
-fn add_blocks(
-    alloc: Global,
-    kind: BlockKind,
-    blocks: &mut Vec<BlockDef<Steps>>,
-) -> Result<(), AllocError> {
-    add_buffer(alloc, "first", blocks)?;
-    add_buffer(alloc, "second", blocks)?;
-    blocks.push(middle(alloc, kind)?)?;
-    add_buffer(alloc, "third", blocks)?;
-    add_buffer(alloc, "fourth", blocks)
-}
-
-fn add_buffer(
-    alloc: Global,
-    name: &str,
-    blocks: &mut Vec<BlockDef<Steps>>,
-) -> Result<(), AllocError> {
-    let name = Text::from_str(alloc, name)?;
-    blocks.push(BlockDef::new(name, BlockKind::Buffer))?;
-    Ok(())
-}
-
-fn add_links(alloc: Global, kind: BlockKind, links: &mut Vec<LinkDef>) -> Result<(), AllocError> {
+fn links(rt: &impl Abort, alloc: Global, kind: BlockKind) -> Vec<LinkDef> {
     let port = u32::from(matches!(kind, BlockKind::Join | BlockKind::BatchedJoin));
-    links.push(link(alloc, "first", "middle", 0)?)?;
-    links.push(link(alloc, "second", "middle", port)?)?;
+    let mut links = Vec::new(alloc);
+    assert!(rt; links.push(link(rt, alloc, "first", "middle", 0)).is_ok());
+    assert!(rt;
+        links
+            .push(link(rt, alloc, "second", "middle", port))
+            .is_ok()
+    );
     if kind != BlockKind::Action {
-        links.push(link(alloc, "middle", "third", 0)?)?;
-        links.push(link(alloc, "middle", "fourth", 0)?)?;
+        assert!(rt; links.push(link(rt, alloc, "middle", "third", 0)).is_ok());
+        assert!(rt; links.push(link(rt, alloc, "middle", "fourth", 0)).is_ok());
     }
-    Ok(())
+    links
 }
 
-/// A plan in whose middle is a block of this kind.
-fn plan(rt: &impl Abort, alloc: Global, kind: BlockKind) -> Plan<Steps>
+fn draft(rt: &impl Abort, alloc: Global, kind: BlockKind, reserving: bool) -> Draft<Steps> {
+    let mut blocks = Vec::new(alloc);
+    assert!(rt; blocks.push(buffer(rt, alloc, "first")).is_ok());
+    assert!(rt; blocks.push(buffer(rt, alloc, "second")).is_ok());
+    assert!(rt; blocks.push(middle(rt, alloc, kind, reserving)).is_ok());
+    assert!(rt; blocks.push(buffer(rt, alloc, "third")).is_ok());
+    assert!(rt; blocks.push(buffer(rt, alloc, "fourth")).is_ok());
+    let links = links(rt, alloc, kind);
+    Draft { blocks, links }
+}
+
+/// A plan in whose middle is a block of this kind, which reserves its messages or takes each at once.
+fn plan(rt: &impl Abort, alloc: Global, kind: BlockKind, reserving: bool) -> Plan<Steps>
     ensures there { MIDDLE < length (layout_of result).blocks }
     ensures kind { (block_in (layout_of result).blocks MIDDLE).kind ≡ kind }
-    ensures greedy { is_reserving (block_in (layout_of result).blocks MIDDLE) ≡ false }
+    ensures reserving { is_reserving (block_in (layout_of result).blocks MIDDLE) ≡ reserving }
 {
-    let Ok(draft) = draft(alloc, kind) else {
-        panic!(rt; "out of memory");
-    };
-    let Ok(plan) = plan_check(alloc, draft) else {
+    let Ok(plan) = plan_check(alloc, draft(rt, alloc, kind, reserving)) else {
         panic!(rt; "something is wrong with the draft");
     };
     if plan.block_count() <= MIDDLE || plan.block(MIDDLE).kind != kind {
         panic!(rt; "the block in the middle is another");
     }
-    if reserves(plan.block(MIDDLE)) {
-        panic!(rt; "the block in the middle reserves");
-    }
-    plan
-}
-
-/// A plan in whose middle is a join that reserves.
-fn reserving_plan(rt: &impl Abort, alloc: Global) -> Plan<Steps>
-    ensures there { MIDDLE < length (layout_of result).blocks }
-    ensures kind { is_reserving (block_in (layout_of result).blocks MIDDLE) ≡ true }
-{
-    let Ok(mut draft) = draft(alloc, BlockKind::Join) else {
-        panic!(rt; "out of memory");
-    };
-    if let Some(middle) = draft.blocks.get_mut(MIDDLE) {
-        middle.greedy = Some(false);
-    }
-    let Ok(plan) = plan_check(alloc, draft) else {
-        panic!(rt; "something is wrong with the draft");
-    };
-    if plan.block_count() <= MIDDLE || !reserves(plan.block(MIDDLE)) {
-        panic!(rt; "the block in the middle takes each message at once");
+    if reserves(plan.block(MIDDLE)) != reserving {
+        panic!(rt; "the block in the middle takes messages otherwise");
     }
     plan
 }
@@ -135,7 +104,7 @@ pub(crate) fn block<K: Kind>(rt: &impl Abort, alloc: Global, kind: BlockKind) ->
     requires { kind ≡ K.kind }
     ensures { Rests (target_over result.ports) }
 {
-    let plan = plan(rt, alloc, kind);
+    let plan = plan(rt, alloc, kind, false);
     let Ok(block) = TypedBlock::new(alloc, &plan, MIDDLE) else {
         panic!(rt; "out of memory");
     };
@@ -151,7 +120,7 @@ pub(crate) fn execution<K: WorkKind>(
     requires { kind ≡ K.kind }
     ensures { Rests (target_over result.block.ports) }
 {
-    let plan = plan(rt, alloc, kind);
+    let plan = plan(rt, alloc, kind, false);
     let Ok(execution) = TypedExecution::new(alloc, &plan, MIDDLE) else {
         panic!(rt; "out of memory");
     };
@@ -162,7 +131,7 @@ pub(crate) fn execution<K: WorkKind>(
 pub(crate) fn batched_join(rt: &impl Abort, alloc: Global) -> BatchedJoin
     ensures { Rests (target_over result.block.ports) }
 {
-    let plan = plan(rt, alloc, BlockKind::BatchedJoin);
+    let plan = plan(rt, alloc, BlockKind::BatchedJoin, false);
     let Ok(join) = BatchedJoin::new(alloc, &plan, MIDDLE) else {
         panic!(rt; "out of memory");
     };
@@ -173,7 +142,7 @@ pub(crate) fn batched_join(rt: &impl Abort, alloc: Global) -> BatchedJoin
 pub(crate) fn reserving_join(rt: &impl Abort, alloc: Global) -> ReservingJoin
     ensures { Rests (target_over result.block.ports) }
 {
-    let plan = reserving_plan(rt, alloc);
+    let plan = plan(rt, alloc, BlockKind::Join, true);
     let Ok(join) = ReservingJoin::new(alloc, &plan, MIDDLE) else {
         panic!(rt; "out of memory");
     };

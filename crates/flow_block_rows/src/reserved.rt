@@ -107,7 +107,7 @@ fn keep_for_second<S: SourceBlock>(
 
 /// The message that is kept for a link is this number, and the link takes it.
 fn take_kept<S: SourceBlock>(
-    rt: &(impl Abort + Print),
+    rt: &impl Abort,
     source: &mut S,
     link: LinkId,
     header: MessageHeader,
@@ -129,7 +129,7 @@ fn take_kept<S: SourceBlock>(
 /// A block of this kind that has taken these messages, made each, and keeps the first for link 7, after both links put it off
 /// with these headers.
 fn keeping(
-    rt: &(impl Abort + Print),
+    rt: &impl Abort,
     alloc: Global,
     kind: BlockKind,
     messages: &str,

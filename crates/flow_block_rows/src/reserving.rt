@@ -8,7 +8,7 @@ ghost use Rattle.flow_kinds.specs.ReservingJoin.{fresh_join};
 ghost use Rattle.flow_block_rows.specs.Driven.{reserving_ports, two_sources, link_to};
 
 use crate::check::check;
-use crate::shared::{has_row, header, link, makes, parcel};
+use crate::shared::{has_row, header, makes, one_rule, parcel};
 use flow_group::Source;
 use flow_intake::Intake;
 use flow_kinds::ReservingJoin;
@@ -41,9 +41,7 @@ fn join(rt: &impl Abort, alloc: Global) -> ReservingJoin
     else {
         panic!(rt; "out of memory");
     };
-    let Ok(rules) = vec![in alloc; link(7)] else {
-        panic!(rt; "out of memory");
-    };
+    let rules = one_rule(rt, alloc, 7);
     let Ok(join) = ReservingJoin::of_parts(alloc, ports, sources, rules) else {
         panic!(rt; "out of memory");
     };

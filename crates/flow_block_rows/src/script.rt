@@ -20,12 +20,7 @@ use std::alloc::Global;
 use std::process::Abort;
 
 /// The target takes these messages, each over link 0 or 1.
-pub(crate) fn takes<T: TargetBlock>(
-    rt: &(impl Abort + Print),
-    alloc: Global,
-    target: &mut T,
-    messages: &str,
-)
+pub(crate) fn takes<T: TargetBlock>(rt: &impl Abort, alloc: Global, target: &mut T, messages: &str)
     requires { Rests (T.target_stage target.old) }
     ensures { Rests (T.target_stage target.new) }
 {
@@ -48,12 +43,7 @@ fn value(rt: &impl Abort, alloc: Global, word: &str) -> Value {
 }
 
 /// The source does these calls, and of each comes what has to.
-pub(crate) fn does<S: SourceBlock>(
-    rt: &(impl Abort + Print),
-    alloc: Global,
-    source: &mut S,
-    calls: &str,
-) {
+pub(crate) fn does<S: SourceBlock>(rt: &impl Abort, alloc: Global, source: &mut S, calls: &str) {
     for call in calls.split("; ") {
         let (word, others) = call.split_once(" ").unwrap_or((call, ""));
         match word {
@@ -75,16 +65,18 @@ fn make<S: SourceBlock>(rt: &impl Abort, alloc: Global, source: &mut S) -> bool 
     }
 }
 
-fn check_made(rt: &(impl Abort + Print), made: bool, wanted: &str) {
+fn check_made(rt: &impl Abort, made: bool, wanted: &str) {
     let holds = match wanted {
         "" => made,
         "nothing" => !made,
         _ => false,
     };
-    assert!(rt; holds, "makes {wanted}: {made}");
+    if !holds {
+        panic!(rt; "makes {wanted}");
+    }
 }
 
-fn check_end(rt: &(impl Abort + Print), came: Option<Outcome>, wanted: &str) {
+fn check_end(rt: &impl Abort, came: Option<Outcome>, wanted: &str) {
     let holds = match came {
         None => wanted == "not",
         Some(Outcome::Done) => wanted == "done",
@@ -93,41 +85,40 @@ fn check_end(rt: &(impl Abort + Print), came: Option<Outcome>, wanted: &str) {
             digits.parse::<u32>().ok() == Some(number)
         }
     };
-    assert!(rt; holds, "ends {wanted}: {came:?}");
-}
-
-/// Tests that a source that offers this message next gives it, or that it offers nothing.
-fn gives<S: SourceBlock>(rt: &(impl Abort + Print), alloc: Global, source: &mut S, wanted: &str) {
-    match give(rt, alloc, source) {
-        Some((link, id, value)) => {
-            let holds = match after_two(wanted, link, id) {
-                Some(word) => is_written(rt, alloc, &value, word),
-                None => false,
-            };
-            assert!(rt; holds, "gives {wanted}: {link} {id} {value:?}");
-        }
-        None => assert!(rt; wanted == "nothing", "gives {wanted}: nothing"),
+    if !holds {
+        panic!(rt; "ends {wanted}");
     }
 }
 
-fn hands<S: SourceBlock>(rt: &(impl Abort + Print), alloc: Global, source: &mut S, wanted: &str) {
-    let made = make(rt, alloc, source);
-    assert!(rt;
-        !made || wanted != "nothing",
-        "hands nothing: it makes more"
-    );
+/// Tests that a source that offers this message next gives it, or that it offers nothing.
+fn gives<S: SourceBlock>(rt: &impl Abort, alloc: Global, source: &mut S, wanted: &str) {
+    let holds = match give(rt, alloc, source) {
+        Some((link, id, value)) => match after_two(wanted, link, id) {
+            Some(word) => is_written(rt, alloc, &value, word),
+            None => false,
+        },
+        None => wanted == "nothing",
+    };
+    if !holds {
+        panic!(rt; "gives {wanted}");
+    }
+}
+
+fn hands<S: SourceBlock>(rt: &impl Abort, alloc: Global, source: &mut S, wanted: &str) {
+    if make(rt, alloc, source) && wanted == "nothing" {
+        panic!(rt; "hands nothing: it makes more");
+    }
     gives(rt, alloc, source, wanted);
 }
 
 /// Tests that the source offers this message next, which is put off, or nothing.
-fn puts<S: SourceBlock>(rt: &(impl Abort + Print), alloc: Global, source: &mut S, wanted: &str) {
-    match put_off(rt, alloc, source) {
-        Some((link, header)) => {
-            let id = header.id();
-            let holds = after_two(wanted, link, id) == Some("");
-            assert!(rt; holds, "puts {wanted}: {link} {id}");
-        }
-        None => assert!(rt; wanted == "nothing", "puts {wanted}: nothing"),
+fn puts<S: SourceBlock>(rt: &impl Abort, alloc: Global, source: &mut S, wanted: &str) {
+    let holds = match put_off(rt, alloc, source) {
+        Some((link, header)) => after_two(wanted, link, header.id()) == Some(""),
+        None => wanted == "nothing",
+    };
+    if !holds {
+        panic!(rt; "puts {wanted}");
     }
 }
 

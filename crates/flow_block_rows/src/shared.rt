@@ -1,16 +1,16 @@
 //! What the tests of parts share: links and messages, what a row is, and what blocks make and how they end.
-ghost use Rattle.std.specs.Prelude.{◌≡◌, false};
+ghost use Rattle.std.specs.Prelude.{◌≡◌, [], ◌∷◌, false};
 ghost use Rattle.flow_block_rows.specs.Driven.{link_to};
 
 use flow_link::{Completing, DataflowBlock, LinkId, Outcome};
 use flow_outlet::LinkRule;
-use flow_value::{MessageHeader, Parcel, Value, When};
+use flow_value::{MessageHeader, Parcel, Text, Value, When};
 use std::alloc::Global;
 use std::collections::VecDeque;
 use std::process::Abort;
 
 /// A link that carries every message, to a target that may put it off.
-pub(crate) fn link(id: LinkId) -> LinkRule
+fn link(id: LinkId) -> LinkRule
     ensures { result ≡ link_to id }
 {
     LinkRule {
@@ -21,6 +21,31 @@ pub(crate) fn link(id: LinkId) -> LinkRule
         steady: false,
         sole: false,
     }
+}
+
+/// The rule of this link alone.
+pub(crate) fn one_rule(rt: &impl Abort, alloc: Global, id: LinkId) -> Vec<LinkRule>
+    ensures { result.items ≡ link_to id ∷ [] }
+{
+    let Ok(rules) = vec![in alloc; link(id)] else {
+        panic!(rt; "out of memory");
+    };
+    rules
+}
+
+/// The rules of these two links.
+pub(crate) fn two_rules(
+    rt: &impl Abort,
+    alloc: Global,
+    first: LinkId,
+    second: LinkId,
+) -> Vec<LinkRule>
+    ensures { result.items ≡ link_to first ∷ link_to second ∷ [] }
+{
+    let Ok(rules) = vec![in alloc; link(first), link(second)] else {
+        panic!(rt; "out of memory");
+    };
+    rules
 }
 
 /// Whether the values are these numbers.
@@ -63,6 +88,14 @@ pub(crate) fn has_row(left: &VecDeque<Value>, numbers: &[i64]) -> bool {
     }
 }
 
+/// These words as a text.
+pub(crate) fn text(rt: &impl Abort, alloc: Global, words: &str) -> Text {
+    let Ok(text) = Text::from_str(alloc, words) else {
+        panic!(rt; "out of memory");
+    };
+    text
+}
+
 /// A number as a message.
 pub(crate) fn parcel(rt: &impl Abort, alloc: Global, number: i64) -> Parcel {
     let Ok(parcel) = Parcel::new(alloc, Value::Int(number)) else {
@@ -92,7 +125,7 @@ pub(crate) fn makes<B: DataflowBlock>(
         panic!(rt; "out of memory or of ids");
     };
     if made != something {
-        panic!(rt; "it makes something: {made}");
+        panic!(rt; "it makes something, or nothing");
     }
 }
 

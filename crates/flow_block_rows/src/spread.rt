@@ -1,6 +1,6 @@
 //! A spread by itself, with the test in the place of its targets.
 use crate::check::check;
-use crate::shared::{header, link};
+use crate::shared::{header, two_rules};
 use flow_link::LinkId;
 use flow_spread::Spread;
 use flow_value::{MessageHeader, MessageStatus, Value};
@@ -9,9 +9,7 @@ use std::process::Abort;
 
 /// A spread over the links 0 and 1, whose next id is 1, with this number for both.
 fn spread(rt: &impl Abort, alloc: Global, number: i64) -> Spread {
-    let Ok(rules) = vec![in alloc; link(0), link(1)] else {
-        panic!(rt; "out of memory");
-    };
+    let rules = two_rules(rt, alloc, 0, 1);
     let Ok(mut spread) = Spread::new(alloc, rules, header(rt, 1)) else {
         panic!(rt; "out of memory");
     };
