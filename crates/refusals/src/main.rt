@@ -3,6 +3,10 @@
 //!
 //! Each refusal is a line on standard output: `the name of the call: refused, as before`. Where memory is refused to what only makes
 //! ready for a call, the case is begun anew. CALLS.md beside this crate has the calls.
+//!
+//! Proved: safe; each call asks no more than it may.
+//! Tested: what it prints: the gate compares a run with memory, and bin/accept refuses each growth in turn.
+//! Neither: that it ends; what no call shows of a value after a refusal, as of a block by hand.
 #![tactic(auto)]
 
 mod again;
