@@ -1,5 +1,5 @@
 //! Texts that are no reports, each with the line and the fault.
-use crate::check::{bytes_of, check, has_rows, is_due, number, two_cells};
+use crate::check::{bytes_of, check, given, has_rows, is_due, number, two_cells};
 use flow_reading::{Kept, read_report};
 use std::alloc::Global;
 use std::process::Abort;
@@ -100,15 +100,12 @@ const LISTS: &str = "
 [\"\u{e9}\",[\"\\\\\"]] | 2
 ";
 
-fn told(rt: &impl Abort, alloc: Global, text: &[u8]) -> String {
+fn told(rt: &(impl Abort + Print), alloc: Global, text: &[u8]) -> String {
     let told = match read_report(alloc, text) {
         Ok(_) => String::from_str(alloc, "read"),
         Err(error) => format!(in alloc; "{error}"),
     };
-    match told {
-        Ok(told) => told,
-        Err(_) => panic!(rt; "out of memory"),
-    }
+    given(rt, "a report", told)
 }
 
 #[test]
@@ -122,11 +119,9 @@ fn broken_reports_are_told(rt: HostRuntime) {
 }
 
 /// The report of a block that left these values.
-fn left(rt: &impl Abort, alloc: Global, list: &str) -> String {
-    match format!(in alloc; "block a done\nport 0 []\nheld 0 []\nleft {list}\nquiet\n") {
-        Ok(report) => report,
-        Err(_) => panic!(rt; "out of memory"),
-    }
+fn left(rt: &(impl Abort + Print), alloc: Global, list: &str) -> String {
+    let report = format!(in alloc; "block a done\nport 0 []\nheld 0 []\nleft {list}\nquiet\n");
+    given(rt, list, report)
 }
 
 #[test]
@@ -146,28 +141,22 @@ fn lists_are_tested(rt: HostRuntime) {
     has_rows(&rt, LISTS, 11);
     for row in LISTS.lines().skip(1) {
         let (list, digits) = two_cells(&rt, row);
-        let count = number(&rt, digits);
         let text = left(&rt, alloc, list);
-        check(
-            &rt,
-            row,
-            counts(alloc, text.as_bytes()) == Some((count, count)),
-        );
+        has_values(&rt, alloc, text.as_bytes(), number(&rt, digits));
     }
 }
 
-/// How many values the first block of a report left, and how many the iterator of their list gives.
-fn counts(alloc: Global, text: &[u8]) -> Option<(usize, usize)> {
-    let report = read_report(alloc, text).ok()?;
-    match report.blocks.first() {
-        Some(block) => counts_of(block.kept),
-        None => None,
+/// Tests that the first block of a report left so many values, and that the iterator of their list gives as many.
+fn has_values(rt: &(impl Abort + Print), alloc: Global, text: &[u8], count: usize) {
+    let report = given(rt, "a report", read_report(alloc, text));
+    for block in &report.blocks {
+        match block.kept {
+            Kept::Left(list) => {
+                check(rt, "values", list.len() == count);
+                check(rt, "items", list.items().count() == count);
+            }
+            Kept::Record(_) => panic!(rt; "a record"),
+        }
     }
-}
-
-fn counts_of(kept: Kept) -> Option<(usize, usize)> {
-    match kept {
-        Kept::Left(list) => Some((list.len(), list.items().count())),
-        Kept::Record(_) => None,
-    }
+    check(rt, "one block", report.blocks.len() == 1);
 }

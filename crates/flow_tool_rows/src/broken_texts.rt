@@ -1,11 +1,10 @@
 //! Texts that are broken in many ways: each is refused, and told so.
-use crate::check::{bytes_of, check, has_rows};
+use crate::check::{bytes_of, check, given, has_rows, number, two_cells};
 use crate::told::printed;
 use flow_explain::{Style, Verdict};
 use flow_fault_text::TextFault;
 use std::alloc::Global;
 use std::process::Abort;
-use std::test::Fail;
 
 /// Texts that are no TOML, a row each, as `bytes_of` reads them.
 const BROKEN: &str = "
@@ -49,53 +48,60 @@ format = 99999999999999999999999~
 \u{e2}\u{80}\u{a8}
 ";
 
-// Tests that a text is refused for its syntax and told on some line, in each style.
-fn is_told(rt: &(impl Abort + Print), alloc: Global, name: &str, text: &[u8]) -> Result<(), Fail> {
-    for style in [Style::Full, Style::Short] {
-        let (verdict, told) = printed(alloc, text, style)?;
-        check(
-            rt,
-            name,
-            verdict == Verdict::Refused(TextFault::Syntax) && told.as_str().contains(": error: "),
-        );
-    }
-    Ok(())
+// Tests that a text is refused for its syntax and told on some line.
+fn is_told(rt: &(impl Abort + Print), alloc: Global, row: &str, style: Style) {
+    let (verdict, told) = printed(rt, alloc, &bytes_of(rt, alloc, row), style);
+    check(rt, row, verdict == Verdict::Refused(TextFault::Syntax));
+    check(rt, row, told.as_str().contains(": error: "));
 }
 
 #[test]
-fn broken_texts_are_told(rt: HostRuntime) -> Result<(), Fail> {
+fn broken_texts_are_told(rt: HostRuntime) {
     has_rows(&rt, BROKEN, 38);
     for row in BROKEN.lines().skip(1) {
-        is_told(&rt, rt.alloc(), row, &bytes_of(&rt, rt.alloc(), row))?;
+        is_told(&rt, rt.alloc(), row, Style::Full);
+        is_told(&rt, rt.alloc(), row, Style::Short);
     }
-    Ok(())
 }
 
-/// What is written so often that a text is deep or long.
-const MANY: &[(&str, usize)] = &[
-    ("[", 1_000_000),
-    ("{", 5_000),
-    ("[[", 5_000),
-    ("a.", 5_000),
-    ("\"", 5_000),
-    ("'", 5_000),
-    ("#", 5_000),
-    ("\\", 5_000),
-    ("x = [", 5_000),
-    ("[a]", 5_000),
-    ("x", 5_000),
-    ("\n", 5_000),
-];
+/// In each row how often something is written, so that a text is deep or long, and what; `line feed` is one.
+const MANY: &str = r#"
+1000000 | [
+5000 | {
+5000 | [[
+5000 | a.
+5000 | "
+5000 | '
+5000 | #
+5000 | \
+5000 | x = [
+5000 | [a]
+5000 | x
+5000 | line feed
+"#;
+
+// Whether no line of a text is long.
+fn are_short(text: &str) -> bool {
+    for line in text.lines() {
+        if line.len() >= 400 {
+            return false;
+        }
+    }
+    true
+}
 
 #[test]
-fn deep_and_long_texts_are_told(rt: HostRuntime) -> Result<(), Fail> {
-    for (piece, count) in MANY {
-        let text = piece.repeat(rt.alloc(), *count)?;
-        let (verdict, told) = printed(rt.alloc(), text.as_bytes(), Style::Full)?;
-        let are_short = told.as_str().lines().all(|line| line.len() < 400);
-        check(&rt, piece, verdict != Verdict::Accepted && are_short);
+fn deep_and_long_texts_are_told(rt: HostRuntime) {
+    let alloc = rt.alloc();
+    has_rows(&rt, MANY, 12);
+    for row in MANY.lines().skip(1) {
+        let (count, piece) = two_cells(&rt, row);
+        let piece = if piece == "line feed" { "\n" } else { piece };
+        let text = given(&rt, row, piece.repeat(alloc, number(&rt, count)));
+        let (verdict, told) = printed(&rt, alloc, text.as_bytes(), Style::Full);
+        check(&rt, row, verdict != Verdict::Accepted);
+        check(&rt, row, are_short(told.as_str()));
     }
-    Ok(())
 }
 
 /// A network in which each prefix is tried.
@@ -111,17 +117,13 @@ propagate = true
 "#;
 
 #[test]
-fn each_prefix_of_a_network_is_told(rt: HostRuntime) -> Result<(), Fail> {
+fn each_prefix_of_a_network_is_told(rt: HostRuntime) {
     let bytes = WHOLE.as_bytes();
     for (end, _) in bytes.iter().enumerate() {
-        let (verdict, told) = printed(rt.alloc(), &bytes[..end], Style::Full)?;
+        let (verdict, told) = printed(&rt, rt.alloc(), &bytes[..end], Style::Full);
+        let told = told.as_str();
         let is_accepted = verdict == Verdict::Accepted;
-        check(
-            &rt,
-            "a prefix",
-            is_accepted == told.as_str().contains("net: accepted")
-                && is_accepted != told.as_str().contains(": error: "),
-        );
+        check(&rt, told, is_accepted == told.contains("net: accepted"));
+        check(&rt, told, is_accepted != told.contains(": error: "));
     }
-    Ok(())
 }

@@ -7,9 +7,35 @@ pub(crate) fn check(rt: &(impl Abort + Print), name: &str, holds: bool) {
     assert!(rt; holds, "{name}");
 }
 
+/// What comes of a call that is to succeed in this row.
+pub(crate) fn given<T, E: Drop>(rt: &(impl Abort + Print), row: &str, made: Result<T, E>) -> T {
+    match made {
+        Ok(given) => given,
+        Err(_) => panic!(rt; "refused, or out of memory: {row}"),
+    }
+}
+
 /// Tests that of this row came the text that is due.
 pub(crate) fn is_due(rt: &(impl Abort + Print), row: &str, due: &str, came: &str) {
     assert!(rt; came == due, "{row}\n  wanted  {due}\n  came    {came}");
+}
+
+/// Tests that of this row came the bytes that are due.
+pub(crate) fn are_due(rt: &(impl Abort + Print), row: &str, due: &[u8], came: &[u8]) {
+    if came != due {
+        let came = str::from_utf8(came).unwrap_or("no UTF-8");
+        panic!(rt; "{row}\n  came    {came}");
+    }
+}
+
+/// Adds bytes to a text.
+pub(crate) fn add(rt: &impl Abort, text: &mut Vec<u8>, bytes: &[u8]) {
+    assert!(rt; text.extend_from_slice(bytes).is_ok(), "out of memory");
+}
+
+/// Adds words to a text.
+pub(crate) fn add_words(rt: &impl Abort, text: &mut String, words: &str) {
+    assert!(rt; text.push_str(words).is_ok(), "out of memory");
 }
 
 /// Tests that behind its first line a text has so many rows.

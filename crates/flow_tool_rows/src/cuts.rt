@@ -1,8 +1,8 @@
 //! Records that are cut in their order.
-use crate::check::{bytes_of, has_rows, number, two_cells};
+use crate::check::{add, are_due, bytes_of, check, given, has_rows, number, two_cells};
 use csv::{ByteRecord, ReaderBuilder};
 use flow_pieces::cut_records;
-use std::alloc::{AllocError, Global};
+use std::alloc::Global;
 use std::process::Abort;
 
 /// In each row the name of a situation, the records, how many parts there are to be, and the parts; records and parts are as
@@ -27,88 +27,71 @@ a mark in front of a record | in,1~\u{ef}\u{bb}\u{bf}in,2~in,3~ | 4 | in,1~\u{ef
 bytes that are no UTF-8 | in,\u{ff}~in,\u{fe}~ | 2 | in,\u{ff}~ + in,\u{fe}~
 ";
 
-/// The records of a text: behind each field a byte 31, and behind each record a byte 30.
-fn add_fields(rt: &impl Abort, alloc: Global, text: &[u8], fields: &mut Vec<u8>) {
+/// Adds the records of a text: behind each field a byte 31, and behind each record a byte 30.
+fn add_fields(rt: &(impl Abort + Print), alloc: Global, text: &[u8], fields: &mut Vec<u8>) {
     let mut reader = ReaderBuilder::new()
         .has_headers(false)
         .flexible(true)
         .from_reader(alloc, text);
     let mut row = ByteRecord::new(alloc);
     for _ in 0..u64::MAX {
-        match reader.read_byte_record(&mut row) {
-            Ok(true) => assert!(rt; add_row(&row, fields).is_ok(), "out of memory"),
-            Ok(false) => return,
-            Err(_) => panic!(rt; "a text could not be read"),
+        if !given(rt, "a row", reader.read_byte_record(&mut row)) {
+            return;
         }
+        add_row(rt, &row, fields);
     }
 }
 
-fn add_row(row: &ByteRecord, fields: &mut Vec<u8>) -> Result<(), AllocError> {
+fn add_row(rt: &impl Abort, row: &ByteRecord, fields: &mut Vec<u8>) {
     for field in row.iter() {
-        fields.extend_from_slice(field)?;
-        fields.push(31)?;
+        add(rt, fields, field);
+        add(rt, fields, b"\x1f");
     }
-    Ok(fields.push(30)?)
+    add(rt, fields, b"\x1e");
 }
 
-fn cut<'t>(
+/// Tests that a text is cut in these parts.
+fn is_cut(
     rt: &(impl Abort + Print),
     alloc: Global,
-    text: &'t [u8],
-    parts: usize,
-) -> Vec<&'t [u8]> {
-    match cut_records(alloc, text, parts) {
-        Ok(pieces) => pieces,
-        Err(_) => panic!(rt; "a text could not be cut in {parts} parts"),
+    row: &str,
+    (text, parts): (&[u8], usize),
+    words: &str,
+) {
+    let pieces = given(rt, row, cut_records(alloc, text, parts));
+    let mut count = 0usize;
+    for (due, piece) in words.split(" + ").zip(&pieces) {
+        are_due(rt, row, &bytes_of(rt, alloc, due), piece);
+        count = count.saturating_add(1);
     }
+    check(rt, row, pieces.len() == count);
+    check(rt, row, words.split(" + ").count() == count);
 }
 
-/// Whether the pieces are those that these words stand for.
-fn are_due(rt: &impl Abort, alloc: Global, pieces: &[&[u8]], words: &str) -> bool {
-    let mut pieces = pieces.iter();
-    for part in words.split(" + ") {
-        match pieces.next() {
-            Some(piece) if *piece == bytes_of(rt, alloc, part).as_slice() => {}
-            _ => return false,
-        }
-    }
-    pieces.next().is_none()
-}
-
-/// Whether the records of so many parts, one part after the other, are those of the text.
-fn holds_records(rt: &(impl Abort + Print), alloc: Global, text: &[u8], parts: usize) -> bool {
+/// Tests that the records of so many parts, one part after the other, are those of the text.
+fn is_whole(rt: &(impl Abort + Print), alloc: Global, row: &str, text: &[u8], parts: usize) {
     let mut whole = Vec::new(alloc);
     add_fields(rt, alloc, text, &mut whole);
     let mut joined = Vec::new(alloc);
-    for piece in &cut(rt, alloc, text, parts) {
+    for piece in &given(rt, row, cut_records(alloc, text, parts)) {
         add_fields(rt, alloc, piece, &mut joined);
     }
-    whole == joined
+    are_due(rt, row, &whole, &joined);
 }
 
-/// Tests that a row is cut in the parts that are due, and that each record is in one part, however many there are.
-fn is_cut(rt: &(impl Abort + Print), alloc: Global, row: &str) {
-    let (_, others) = two_cells(rt, row);
-    let (words, others) = two_cells(rt, others);
-    let (digits, due) = two_cells(rt, others);
-    let text = bytes_of(rt, alloc, words);
-    let pieces = cut(rt, alloc, &text, number(rt, digits));
-    assert!(rt;
-        are_due(rt, alloc, &pieces, due),
-        "{row}\n  came {pieces:?}"
-    );
-    for parts in [1, 2, 5] {
-        assert!(rt;
-            holds_records(rt, alloc, &text, parts),
-            "{row}\n  not whole in {parts} parts"
-        );
-    }
-}
-
+/// A text is cut in the parts that are due, and each record is in one part, however many there are.
 #[test]
 fn parts_are_those_due(rt: HostRuntime) {
+    let alloc = rt.alloc();
     has_rows(&rt, CASES, 17);
     for row in CASES.lines().skip(1) {
-        is_cut(&rt, rt.alloc(), row);
+        let (_, others) = two_cells(&rt, row);
+        let (words, others) = two_cells(&rt, others);
+        let (digits, due) = two_cells(&rt, others);
+        let text = bytes_of(&rt, alloc, words);
+        is_cut(&rt, alloc, row, (text.as_slice(), number(&rt, digits)), due);
+        is_whole(&rt, alloc, row, &text, 1);
+        is_whole(&rt, alloc, row, &text, 2);
+        is_whole(&rt, alloc, row, &text, 5);
     }
 }

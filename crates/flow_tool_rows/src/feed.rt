@@ -1,14 +1,14 @@
 //! Rows of CSV files as records.
-use crate::check::{bytes_of, check, has_rows, is_due, two_cells};
+use crate::check::{add, are_due, bytes_of, check, given, has_rows, two_cells};
+use crate::networks::{planned, text_of};
 use csv::{ByteRecord, ReaderBuilder};
-use flow_feed::{Asked, FeedFault, OnBad, Sent, Wanted, feed};
-use flow_text::{read_plan, read_records};
-use flow_value::{Text, Value};
-use std::alloc::{AllocError, Global};
+use flow_feed::{Asked, Fed, FeedFault, OnBad, Sent, Wanted, feed};
+use flow_text::read_records;
+use flow_value::Value;
+use std::alloc::Global;
 use std::io;
 use std::io::{ErrorKind, Read, Write};
 use std::process::Abort;
-use std::test::Fail;
 
 /// In each row the name of a situation, what is asked for, the rows, and what comes of them: the records, behind ` / ` the rows
 /// that are set aside, and behind ` ! ` why the work ended or what was set aside first. Bytes are as `bytes_of` reads them.
@@ -159,7 +159,7 @@ impl Write for Failing {
 }
 
 /// What the words of a row ask for, and what is done with bad rows.
-fn asked_of<'w>(alloc: Global, words: &'w str) -> Result<(Asked<'w>, OnBad), Fail> {
+fn asked_of<'w>(rt: &(impl Abort + Print), alloc: Global, words: &'w str) -> (Asked<'w>, OnBad) {
     let mut asked = Asked {
         header: false,
         sent: Vec::new(alloc),
@@ -174,45 +174,57 @@ fn asked_of<'w>(alloc: Global, words: &'w str) -> Result<(Asked<'w>, OnBad), Fai
             on_bad = OnBad::SetAside;
         } else if let Some(column) = word.strip_prefix("key:") {
             asked.key = Some(column);
-        } else if let Some(wanted) = word.strip_prefix("where:") {
-            asked.wanted.push(Wanted::read(wanted).ok_or("no text")?)?;
         } else {
-            asked.sent.push(Sent::read(word).ok_or("no input")?)?;
+            ask(rt, &mut asked, word);
         }
     }
-    Ok((asked, on_bad))
+    (asked, on_bad)
+}
+
+/// Asks for an input, or a text in a column.
+fn ask<'w>(rt: &(impl Abort + Print), asked: &mut Asked<'w>, word: &'w str) {
+    if let Some(wanted) = word.strip_prefix("where:") {
+        let wanted = given(rt, word, Wanted::read(wanted).ok_or(()));
+        given(rt, word, asked.wanted.push(wanted));
+    } else {
+        let sent = given(rt, word, Sent::read(word).ok_or(()));
+        given(rt, word, asked.sent.push(sent));
+    }
+}
+
+/// Why the work ended, or what was set aside first; nothing where nothing was.
+fn why_of(rt: &(impl Abort + Print), alloc: Global, fed: Result<Fed, FeedFault<'_>>) -> String {
+    let why = match fed {
+        Ok(fed) => match fed.first_bad {
+            Some(row) => format!(in alloc; "! {row}"),
+            None => String::from_str(alloc, ""),
+        },
+        Err(fault) => format!(in alloc; "! {fault}"),
+    };
+    given(rt, "why", why)
 }
 
 /// What comes of rows, as the table tells it.
-fn fed_of<R: Read + Drop>(alloc: Global, words: &str, rows: R) -> Result<Vec<u8>, Fail> {
-    let (asked, on_bad) = asked_of(alloc, words)?;
+fn fed_of<R: Read + Drop>(
+    rt: &(impl Abort + Print),
+    alloc: Global,
+    words: &str,
+    rows: R,
+) -> Vec<u8> {
+    let (asked, on_bad) = asked_of(rt, alloc, words);
     let mut text: Vec<u8> = Vec::new(alloc);
     let mut bad: Vec<u8> = Vec::new(alloc);
     let fed = feed(alloc, &asked, rows, on_bad, &mut text, &mut bad);
     if !bad.is_empty() {
-        text.extend_from_slice(b" / ")?;
-        text.extend_from_slice(&bad)?;
+        add(rt, &mut text, b" / ");
+        add(rt, &mut text, &bad);
     }
-    let told = match fed {
-        Ok(fed) => match fed.first_bad {
-            Some(row) => format!(in alloc; " ! {row}")?,
-            None => return Ok(text),
-        },
-        Err(fault) => format!(in alloc; " ! {fault}")?,
-    };
-    let told = told.as_str();
-    let told = if text.is_empty() {
-        told.trim_start()
-    } else {
-        told
-    };
-    text.extend_from_slice(told.as_bytes())?;
-    Ok(text)
-}
-
-/// Bytes as a text that can be told.
-fn shown(alloc: Global, bytes: &[u8]) -> Result<String, Fail> {
-    Ok(String::from_utf8_lossy(alloc, bytes)?)
+    let why = why_of(rt, alloc, fed);
+    if !text.is_empty() && !why.is_empty() {
+        add(rt, &mut text, b" ");
+    }
+    add(rt, &mut text, why.as_bytes());
+    text
 }
 
 /// The texts of a row of the table: what is asked for, the rows, and what is due.
@@ -223,26 +235,27 @@ fn cells_of<'r>(rt: &(impl Abort + Print), row: &'r str) -> (&'r str, &'r str, &
     (words, rows, due)
 }
 
+/// Tests that of a row of the table comes what is due, and the same where the rows come a byte at a time.
+fn is_fed(rt: &(impl Abort + Print), alloc: Global, row: &str) {
+    let (words, rows, due) = cells_of(rt, row);
+    let words = bytes_of(rt, alloc, words);
+    let words = given(rt, row, str::from_utf8(&words));
+    let rows = bytes_of(rt, alloc, rows);
+    let due = bytes_of(rt, alloc, due);
+    are_due(rt, row, &due, &fed_of(rt, alloc, words, rows.as_slice()));
+    let slow = Bytewise {
+        text: &rows,
+        calls: 1_001,
+    };
+    are_due(rt, row, &due, &fed_of(rt, alloc, words, slow));
+}
+
 #[test]
-fn rows_are_fed(rt: HostRuntime) -> Result<(), Fail> {
-    let alloc = rt.alloc();
+fn rows_are_fed(rt: HostRuntime) {
     has_rows(&rt, FED, 69);
     for row in FED.lines().skip(1) {
-        let (words, rows, due) = cells_of(&rt, row);
-        let words = bytes_of(&rt, alloc, words);
-        let words = str::from_utf8(words.as_slice())?;
-        let rows = bytes_of(&rt, alloc, rows);
-        let came = fed_of(alloc, words, rows.as_slice())?;
-        let due = shown(alloc, bytes_of(&rt, alloc, due).as_slice())?;
-        let text = shown(alloc, came.as_slice())?;
-        is_due(&rt, row, due.as_str(), text.as_str());
-        let slow = Bytewise {
-            text: rows.as_slice(),
-            calls: 1_001,
-        };
-        check(&rt, row, fed_of(alloc, words, slow)? == came);
+        is_fed(&rt, rt.alloc(), row);
     }
-    Ok(())
 }
 
 #[test]
@@ -256,79 +269,90 @@ fn words_name_a_column_and_an_input(rt: HostRuntime) {
 }
 
 /// The fields of a column of a text with a header, as `csv` reads them.
-fn column_of(alloc: Global, text: &[u8], place: usize) -> Result<Vec<Value>, Fail> {
+fn column_of(rt: &(impl Abort + Print), alloc: Global, text: &[u8], place: usize) -> Vec<Value> {
     let mut reader = ReaderBuilder::new().from_reader(alloc, text);
     let mut row = ByteRecord::new(alloc);
     let mut values = Vec::new(alloc);
     for _ in 0..1_000 {
-        let Ok(true) = reader.read_byte_record(&mut row) else {
+        if !given(rt, "a row", reader.read_byte_record(&mut row)) {
             break;
-        };
-        let field = str::from_utf8(row.get(place).ok_or("no field")?)?;
-        values.push(Value::Text(Text::from_str(alloc, field)?))?;
+        }
+        let field = row.get(place).unwrap_or(b"no field");
+        let value = Value::Text(text_of(rt, alloc, field));
+        given(rt, "a field", values.push(value));
     }
-    Ok(values)
+    values
 }
 
 #[test]
-fn what_is_fed_is_read_as_it_was(rt: HostRuntime) -> Result<(), Fail> {
+fn what_is_fed_is_read_as_it_was(rt: HostRuntime) {
     let alloc = rt.alloc();
     let text = bytes_of(&rt, alloc, ODD);
-    let records = fed_of(alloc, "header a=in b=out", text.as_slice())?;
-    let Ok(plan) = read_plan(alloc, TWO_INPUTS) else {
-        return Err(Fail::new("no network"));
-    };
-    let Ok(posted) = read_records(alloc, records.as_slice(), &plan) else {
-        return Err(Fail::new("no records"));
-    };
+    let records = fed_of(&rt, alloc, "header a=in b=out", text.as_slice());
+    let plan = planned(&rt, alloc, TWO_INPUTS);
+    let posted = given(
+        &rt,
+        "records",
+        read_records(alloc, records.as_slice(), &plan),
+    );
     check(&rt, "inputs", posted.len() == 2);
     for (place, input) in posted.iter().enumerate() {
-        let due = column_of(alloc, &text, place)?;
-        check(&rt, "a column", input.values == due && due.len() == 7);
+        let due = column_of(&rt, alloc, &text, place);
+        check(&rt, "a column", input.values == due);
+        check(&rt, "all rows", due.len() == 7);
     }
-    Ok(())
 }
 
 /// So many times these bytes.
-fn repeated(alloc: Global, bytes: &[u8], count: usize) -> Result<Vec<u8>, AllocError> {
+fn repeated(rt: &impl Abort, alloc: Global, bytes: &[u8], count: usize) -> Vec<u8> {
     let mut text = Vec::new(alloc);
     for _ in 0..count {
-        text.extend_from_slice(bytes)?;
+        add(rt, &mut text, bytes);
     }
-    Ok(text)
+    text
 }
 
 /// Bytes between others.
-fn between(alloc: Global, head: &[u8], bytes: &[u8], tail: &[u8]) -> Result<Vec<u8>, AllocError> {
-    let mut text = Vec::from_slice(alloc, head)?;
-    text.extend_from_slice(bytes)?;
-    text.extend_from_slice(tail)?;
-    Ok(text)
+fn between(rt: &impl Abort, alloc: Global, head: &[u8], bytes: &[u8], tail: &[u8]) -> Vec<u8> {
+    let mut text = Vec::new(alloc);
+    add(rt, &mut text, head);
+    add(rt, &mut text, bytes);
+    add(rt, &mut text, tail);
+    text
 }
 
-/// How many rows there are, what their field is and how often in it, and how it is quoted in records.
-const LONG: &[(usize, &[u8], usize, &[u8])] = &[
-    (4_000, b"x\"\",", 1, b"\""),
-    (5_000, b"\r\n", 1, b"\""),
-    (3, b"y", 20_000, b""),
-    (1, b"\"\"", 20_001, b"\""),
-];
+/// Tests so many rows whose field is these bytes so often, and that is quoted so in records.
+fn is_long(
+    rt: &(impl Abort + Print),
+    alloc: Global,
+    rows: usize,
+    unit: &[u8],
+    times: usize,
+    quote: &[u8],
+) {
+    let field = repeated(rt, alloc, unit, times);
+    let row = between(rt, alloc, b"\"", &field, b"\",1\r\n");
+    let row = repeated(rt, alloc, &row, rows);
+    let text = between(rt, alloc, b"a,b\r\n", &row, b"");
+    let quoted = between(rt, alloc, quote, &field, quote);
+    let record = between(rt, alloc, b"in,", &quoted, b"\n");
+    let due = repeated(rt, alloc, &record, rows);
+    let words = "bad header where:b=1 a=in";
+    check(
+        rt,
+        "all rows",
+        fed_of(rt, alloc, words, text.as_slice()) == due,
+    );
+}
 
 /// The buffers of readers and writers end in any place of a row: within a line end and within two quotes too.
 #[test]
-fn rows_go_over_the_ends_of_buffers(rt: HostRuntime) -> Result<(), Fail> {
+fn rows_go_over_the_ends_of_buffers(rt: HostRuntime) {
     let alloc = rt.alloc();
-    for (rows, unit, times, quote) in LONG {
-        let field = repeated(alloc, unit, *times)?;
-        let row = between(alloc, b"\"", &field, b"\",1\r\n")?;
-        let text = between(alloc, b"a,b\r\n", &repeated(alloc, &row, *rows)?, b"")?;
-        let quoted = between(alloc, quote, &field, quote)?;
-        let record = between(alloc, b"in,", &quoted, b"\n")?;
-        let due = repeated(alloc, &record, *rows)?;
-        let came = fed_of(alloc, "bad header where:b=1 a=in", text.as_slice())?;
-        check(&rt, "all rows", came == due);
-    }
-    Ok(())
+    is_long(&rt, alloc, 4_000, b"x\"\",", 1, b"\"");
+    is_long(&rt, alloc, 5_000, b"\r\n", 1, b"\"");
+    is_long(&rt, alloc, 3, b"y", 20_000, b"");
+    is_long(&rt, alloc, 1, b"\"\"", 20_001, b"\"");
 }
 
 /// Rows of which one is bad, and what is made of them.
@@ -336,45 +360,52 @@ const THREE: &[u8] = b"a\n1\n2,3\n4\n";
 
 const RECORDS: &[u8] = b"in,1\nin,4\n";
 
-#[test]
-fn a_reader_that_fails_at_any_call_is_told(rt: HostRuntime) -> Result<(), Fail> {
-    let (asked, on_bad) = asked_of(rt.alloc(), "bad header a=in")?;
-    for calls in 0..2 * THREE.len() + 1 {
-        let mut text: Vec<u8> = Vec::new(rt.alloc());
-        let mut bad: Vec<u8> = Vec::new(rt.alloc());
-        let rows = Bytewise { text: THREE, calls };
-        match feed(rt.alloc(), &asked, rows, on_bad, &mut text, &mut bad) {
-            Err(FeedFault::Read(_)) => {
-                check(&rt, "a front", RECORDS.starts_with(text.as_slice()));
-            }
-            Ok(_) | Err(_) => return Err(Fail::new("no failure of the reader")),
-        }
-    }
-    Ok(())
+/// What is asked for of them.
+const WANTED: &str = "bad header a=in";
+
+/// Tests that a reader is told that fails behind so many calls.
+fn is_reader_told(rt: &(impl Abort + Print), alloc: Global, calls: usize) {
+    let (asked, on_bad) = asked_of(rt, alloc, WANTED);
+    let mut text: Vec<u8> = Vec::new(alloc);
+    let mut bad: Vec<u8> = Vec::new(alloc);
+    let rows = Bytewise { text: THREE, calls };
+    let fed = feed(alloc, &asked, rows, on_bad, &mut text, &mut bad);
+    check(rt, "a reader", matches!(fed, Err(FeedFault::Read(_))));
+    check(rt, "a front", RECORDS.starts_with(&text));
+}
+
+/// Tests that a writer is told that fails behind so many calls.
+fn is_writer_told(rt: &(impl Abort + Print), alloc: Global, calls: usize) {
+    let (asked, on_bad) = asked_of(rt, alloc, WANTED);
+    let mut failing = Failing { calls };
+    let mut bad: Vec<u8> = Vec::new(alloc);
+    let fed = feed(alloc, &asked, THREE, on_bad, &mut failing, &mut bad);
+    check(rt, "a writer", matches!(fed, Err(FeedFault::Write)));
+    are_due(rt, "bad rows", b"2,3\n", &bad);
+}
+
+/// Tests that a writer of bad rows is told that fails behind so many calls.
+fn is_aside_told(rt: &(impl Abort + Print), alloc: Global, calls: usize) {
+    let (asked, on_bad) = asked_of(rt, alloc, WANTED);
+    let mut failing = Failing { calls };
+    let mut text: Vec<u8> = Vec::new(alloc);
+    let fed = feed(alloc, &asked, THREE, on_bad, &mut text, &mut failing);
+    check(
+        rt,
+        "a writer of bad rows",
+        matches!(fed, Err(FeedFault::Aside(_))),
+    );
+    are_due(rt, "records", b"in,1\n", &text);
 }
 
 #[test]
-fn a_writer_that_fails_at_any_call_is_told(rt: HostRuntime) -> Result<(), Fail> {
-    let (asked, on_bad) = asked_of(rt.alloc(), "bad header a=in")?;
+fn failures_at_any_call_are_told(rt: HostRuntime) {
+    for calls in 0..2 * THREE.len() + 1 {
+        is_reader_told(&rt, rt.alloc(), calls);
+    }
     for calls in 0..RECORDS.len() / 2 {
-        let mut failing = Failing { calls };
-        let mut bad: Vec<u8> = Vec::new(rt.alloc());
-        match feed(rt.alloc(), &asked, THREE, on_bad, &mut failing, &mut bad) {
-            Err(FeedFault::Write) => check(&rt, "bad rows", bad.as_slice() == b"2,3\n".as_slice()),
-            Ok(_) | Err(_) => return Err(Fail::new("no failure of the writer")),
-        }
+        is_writer_told(&rt, rt.alloc(), calls);
     }
-    for calls in 0..2 {
-        let mut text: Vec<u8> = Vec::new(rt.alloc());
-        let mut failing = Failing { calls };
-        match feed(rt.alloc(), &asked, THREE, on_bad, &mut text, &mut failing) {
-            Err(FeedFault::Aside(_)) => check(
-                &rt,
-                "records",
-                text.as_slice() == b"in,1\n".as_slice(),
-            ),
-            Ok(_) | Err(_) => return Err(Fail::new("no failure of the writer of bad rows")),
-        }
-    }
-    Ok(())
+    is_aside_told(&rt, rt.alloc(), 0);
+    is_aside_told(&rt, rt.alloc(), 1);
 }

@@ -2,13 +2,12 @@
 use crate::check::{has_cases, head_and_lines, is_due};
 use crate::told::{begins, lines_of, printed};
 use flow_explain::Style;
-use std::test::Fail;
 
-/// Lines of a network, between which ' ; ' stands, and all that is printed of it.
-const FORMS: &[(&str, &str)] = &[
-    (
-        "block = [] ; [[link]] ; form = \"a\" ; to = \"b\"",
-        "net:4:1: error: link 0 has a key \"form\", which links do not have. Did you mean \"from\"?
+/// Behind `case` stand the lines of a network, between which ' ; ' stands, and below that all that is printed of it. What turns
+/// the direction of a line is not shown as it is. A tab is one column, an accented letter too, and a wide character is two.
+const FORMS: &str = "
+case block = [] ; [[link]] ; form = \"a\" ; to = \"b\"
+net:4:1: error: link 0 has a key \"form\", which links do not have. Did you mean \"from\"?
  4 | form = \"a\"
    | ^^^^
    = 2 UnknownKey link 0
@@ -17,36 +16,26 @@ net:5:6: error: link 0 leads to \"b\", and no block has that name.
    |      ^^^
    = 8 Plan 3 UnknownBlock link 0
 net: refused, with 2 errors
-",
-    ),
-    (
-        "block = []",
-        "net: accepted
-",
-    ),
-    // What turns the direction of a line is not shown as it is.
-    (
-        "block = [] ; \"\u{202e}a\u{2066}\" = \"\u{200f}\"",
-        "net:3:1: error: the network has a key \"\\u{202e}a\\u{2066}\", which networks do not have.
+
+case block = []
+net: accepted
+
+case block = [] ; \"\u{202e}a\u{2066}\" = \"\u{200f}\"
+net:3:1: error: the network has a key \"\\u{202e}a\\u{2066}\", which networks do not have.
  3 | \"\\u{202e}a\\u{2066}\" = \"\\u{200f}\"
    | ^^^^^^^^^^^^^^^^^^^
    = 2 UnknownKey top
 net: refused, with 1 error
-",
-    ),
-    // A tab is one column, an accented letter too, and a wide character is two.
-    (
-        "block = [] ; \"é日\"\t= 1",
-        "net:3:1: error: the network has a key \"é日\", which networks do not have.
+
+case block = [] ; \"é日\"\t= 1
+net:3:1: error: the network has a key \"é日\", which networks do not have.
  3 | \"é日\" = 1
    | ^^^^^
    = 2 UnknownKey top
 net: refused, with 1 error
-",
-    ),
-    (
-        "block = [{name = \"日本\", kind = 3}]",
-        "net:2:31: error: \"kind\" of block 0 \"日本\" is to be the word for a kind of block in quotes, and is 3.
+
+case block = [{name = \"日本\", kind = 3}]
+net:2:31: error: \"kind\" of block 0 \"日本\" is to be the word for a kind of block in quotes, and is 3.
  2 | block = [{name = \"日本\", kind = 3}]
    |                                 ^
    = 4 WrongType block 0
@@ -55,18 +44,17 @@ net:2:18: error: \"日本\" is no name: a name has 1 to 64 letters, digits, \"_\
    |                  ^^^^^^
    = 8 Plan 6 BadOption block 0
 net: refused, with 2 errors
-",
-    ),
-];
+";
 
 #[test]
-fn flaws_are_printed_with_their_lines(rt: HostRuntime) -> Result<(), Fail> {
-    for (lines, wanted) in FORMS {
-        let text = lines_of(rt.alloc(), lines)?;
-        let (_, told) = printed(rt.alloc(), text.as_bytes(), Style::Full)?;
-        is_due(&rt, lines, wanted, told.as_str());
+fn flaws_are_printed_with_their_lines(rt: HostRuntime) {
+    has_cases(&rt, FORMS, 5);
+    for case in FORMS.split("\ncase ").skip(1) {
+        let (lines, wanted) = head_and_lines(case);
+        let text = lines_of(&rt, rt.alloc(), lines);
+        let (_, told) = printed(&rt, rt.alloc(), text.as_bytes(), Style::Full);
+        is_due(&rt, case, wanted, told.as_str());
     }
-    Ok(())
 }
 
 /// Behind `case` stand the lines of a network, between which ' ; ' stands, and below that how the lines begin that are printed
@@ -135,13 +123,12 @@ net:3:81: error: "le 5" is no predicate. There are any, even, odd, lt, ge, eq.
 "#;
 
 #[test]
-fn hints_are_printed(rt: HostRuntime) -> Result<(), Fail> {
+fn hints_are_printed(rt: HostRuntime) {
     has_cases(&rt, SHORT, 19);
     for case in SHORT.split("\ncase ").skip(1) {
         let (lines, wanted) = head_and_lines(case);
-        let text = lines_of(rt.alloc(), lines)?;
-        let (_, told) = printed(rt.alloc(), text.as_bytes(), Style::Short)?;
+        let text = lines_of(&rt, rt.alloc(), lines);
+        let (_, told) = printed(&rt, rt.alloc(), text.as_bytes(), Style::Short);
         begins(&rt, case, told.as_str(), wanted);
     }
-    Ok(())
 }

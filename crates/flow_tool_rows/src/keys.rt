@@ -1,9 +1,8 @@
 //! Records that are dealt out by their key.
-use crate::check::{bytes_of, check, has_rows, two_cells};
+use crate::check::{add, are_due, bytes_of, check, given, has_rows, number, two_cells};
 use flow_pieces::{KeyFault, KeyedPieces, Pairing, PieceFault, deal_by_key, part_of_key};
-use std::alloc::{AllocError, Global};
+use std::alloc::Global;
 use std::process::Abort;
-use std::test::Fail;
 
 /// Records of a key, an input and a value, without quotes. Both inputs have the same keys in the same order.
 const ORDERS: &str = "\
@@ -19,30 +18,27 @@ carl,payments,8
 anna,payments,10
 ";
 
-/// Texts in one part, and what stands there.
-const FORMS: &[(&[u8], &[u8])] = &[
-    (b"k,in,v\n", b"in,v\n"),
-    (b"k,in,v\r\nk,in,w", b"in,v\nin,w\n"),
-    (b"k,in,\n", b"in,\n"),
-    (b"k,in,\"a,b\"\n", b"in,\"a,b\"\n"),
-    (
-        b"\"k\",\"in\",\"say \"\"x\"\"\"\n",
-        b"in,\"say \"\"x\"\"\"\n",
-    ),
-    (b"\"a,b\",in,\"line\nend\"\n", b"in,\"line\nend\"\n"),
-    (b"\xef\xbb\xbfk,in,v\n", b"in,v\n"),
-    (b"k,in,\xff\n", b"in,\xff\n"),
-    (b"", b""),
-];
+/// In each row a text and what stands in its one part, as `bytes_of` reads them.
+const FORMS: &str = r#"
+k,in,v~ | in,v~
+k,in,v^~k,in,w | in,v~in,w~
+k,in,~ | in,~
+k,in,"a,b"~ | in,"a,b"~
+"k","in","say ""x"""~ | in,"say ""x"""~
+"a,b",in,"line~end"~ | in,"line~end"~
+ï»¿k,in,v~ | in,v~
+k,in,ÿ~ | in,ÿ~
+nothing | nothing
+"#;
 
-/// Texts that are refused, and the record at fault.
-const REFUSED: &[(&[u8], u64)] = &[
-    (b"in,v\n", 1),
-    (b"k,in,v\nk,in\n", 2),
-    (b"k,in,v,w\n", 1),
-    (b"k,in,v\n\nk\n", 2),
-    (b"k,in,\"v\nk,in,v\n\",w\n", 1),
-];
+/// In each row a text that is refused, as `bytes_of` reads it, and the record at fault.
+const REFUSED: &str = r#"
+in,v~ | 1
+k,in,v~k,in~ | 2
+k,in,v,w~ | 1
+k,in,v~~k~ | 2
+k,in,"v~k,in,v~",w~ | 1
+"#;
 
 /// In each row the name of a situation, what is done where keys differ, the records, and what comes of them in one part:
 /// behind ` / ` the records that are set aside, or why they are refused. Bytes are as `bytes_of` reads them.
@@ -72,106 +68,134 @@ as they stood | set aside | "b~c",o,"x~y"~a,o,1~a,p,2~d,p,"3" | o,1~p,2~ / "b~c"
 a third that has none | set aside | a,o,1~a,p,2~b,o,3~b,p,4~b,q,5~ | o,3~p,4~q,5~ / a,o,1~a,p,2~
 "#;
 
-/// The parts of records without quotes.
-fn parts_of(alloc: Global, text: &str, parts: usize) -> Result<Vec<Vec<u8>>, Fail> {
+/// What is in one of so many parts of records without quotes.
+fn part_of(
+    rt: &(impl Abort + Print),
+    alloc: Global,
+    text: &str,
+    (part, parts): (usize, usize),
+) -> Vec<u8> {
     let mut due = Vec::new(alloc);
-    for _ in 0..parts {
-        due.push(Vec::new(alloc))?;
-    }
     for line in text.lines() {
-        let (key, record) = line.split_once(",").ok_or("no key")?;
-        let part = due
-            .get_mut(part_of_key(key.as_bytes(), parts))
-            .ok_or("no part")?;
-        part.extend_from_slice(record.as_bytes())?;
-        part.push(b'\n')?;
+        let (key, record) = line.split_once(",").unwrap_or(("", line));
+        if part_of_key(key.as_bytes(), parts) == part {
+            add(rt, &mut due, record.as_bytes());
+            add(rt, &mut due, b"\n");
+        }
     }
-    Ok(due)
+    due
 }
 
 /// The texts of parts, or why there are none.
-fn told(alloc: Global, dealt: Result<KeyedPieces, KeyFault>) -> Result<Vec<u8>, AllocError> {
+fn told(rt: &impl Abort, alloc: Global, dealt: Result<KeyedPieces, KeyFault>) -> Vec<u8> {
     let mut text = Vec::new(alloc);
     match dealt {
         Ok(dealt) => {
             for piece in &dealt.pieces {
-                text.extend_from_slice(piece)?;
+                add(rt, &mut text, piece);
             }
             if !dealt.alone.is_empty() {
-                text.extend_from_slice(b" / ")?;
-                text.extend_from_slice(&dealt.alone)?;
+                add(rt, &mut text, b" / ");
+                add(rt, &mut text, &dealt.alone);
             }
         }
-        Err(KeyFault::Differ(words)) => add_words(&mut text, b"differ ", words.as_str())?,
-        Err(KeyFault::Alone(words)) => add_words(&mut text, b"alone ", words.as_str())?,
-        Err(KeyFault::Piece(_)) => text.extend_from_slice(b"no pieces")?,
+        Err(KeyFault::Differ(words)) => {
+            add(rt, &mut text, b"differ ");
+            add(rt, &mut text, words.as_bytes());
+        }
+        Err(KeyFault::Alone(words)) => {
+            add(rt, &mut text, b"alone ");
+            add(rt, &mut text, words.as_bytes());
+        }
+        Err(KeyFault::Piece(_)) => add(rt, &mut text, b"no pieces"),
     }
-    Ok(text)
-}
-
-fn add_words(text: &mut Vec<u8>, head: &[u8], words: &str) -> Result<(), AllocError> {
-    text.extend_from_slice(head)?;
-    text.extend_from_slice(words.as_bytes())
+    text
 }
 
 /// What is done where keys differ, by its name.
-fn pairing_of(rt: &(impl Abort + Print), name: &str) -> Pairing {
-    match name {
-        "as they come" => Pairing::AsTheyCome,
-        "in rows" => Pairing::InRows,
-        "set aside" => Pairing::SetAside,
-        _ => panic!(rt; "no pairing: {name}"),
+fn pairing_of(rt: &impl Abort, name: &str) -> Pairing {
+    if name == "as they come" {
+        return Pairing::AsTheyCome;
+    }
+    if name == "in rows" {
+        return Pairing::InRows;
+    }
+    assert!(rt; name == "set aside", "no pairing");
+    Pairing::SetAside
+}
+
+/// Tests that in each of so many parts are the records of its keys.
+fn stay_together(rt: &(impl Abort + Print), alloc: Global, parts: usize) {
+    let dealt = deal_by_key(alloc, ORDERS.as_bytes(), parts, Pairing::AsTheyCome);
+    let dealt = given(rt, "orders", dealt);
+    check(rt, "parts", dealt.pieces.len() == parts);
+    for (part, piece) in dealt.pieces.iter().enumerate() {
+        are_due(
+            rt,
+            "orders",
+            &part_of(rt, alloc, ORDERS, (part, parts)),
+            piece,
+        );
     }
 }
 
 #[test]
-fn records_of_a_key_stay_together(rt: HostRuntime) -> Result<(), Fail> {
+fn records_of_a_key_stay_together(rt: HostRuntime) {
     for parts in 1..9 {
-        let due = parts_of(rt.alloc(), ORDERS, parts)?;
-        match deal_by_key(rt.alloc(), ORDERS.as_bytes(), parts, Pairing::AsTheyCome) {
-            Ok(dealt) => check(&rt, "orders", dealt.pieces == due),
-            Err(_) => return Err(Fail::new("orders could not be dealt out")),
-        }
+        stay_together(&rt, rt.alloc(), parts);
     }
-    Ok(())
+}
+
+/// Tests that of records come these in so many parts, or why there are none.
+fn comes_of(
+    rt: &(impl Abort + Print),
+    alloc: Global,
+    row: &str,
+    words: &str,
+    (parts, pairing): (usize, Pairing),
+    due: &str,
+) {
+    let dealt = deal_by_key(alloc, &bytes_of(rt, alloc, words), parts, pairing);
+    are_due(rt, row, &bytes_of(rt, alloc, due), &told(rt, alloc, dealt));
+}
+
+/// Tests that a text is refused for this record.
+fn is_refused(rt: &(impl Abort + Print), alloc: Global, row: &str) {
+    let (words, digits) = two_cells(rt, row);
+    let dealt = deal_by_key(alloc, &bytes_of(rt, alloc, words), 3, Pairing::AsTheyCome);
+    match dealt {
+        Err(KeyFault::Piece(PieceFault::Fields(found))) => {
+            check(rt, row, found == number(rt, digits) as u64);
+        }
+        Ok(_) | Err(_) => panic!(rt; "not refused: {row}"),
+    }
 }
 
 #[test]
-fn records_keep_their_fields(rt: HostRuntime) -> Result<(), Fail> {
-    for (text, due) in FORMS {
-        for parts in 0..2 {
-            let dealt = deal_by_key(rt.alloc(), text, parts, Pairing::AsTheyCome);
-            check(&rt, "fields", told(rt.alloc(), dealt)?.as_slice() == *due);
-        }
+fn records_keep_their_fields(rt: HostRuntime) {
+    let alloc = rt.alloc();
+    has_rows(&rt, FORMS, 9);
+    for row in FORMS.lines().skip(1) {
+        let (words, due) = two_cells(&rt, row);
+        comes_of(&rt, alloc, row, words, (0, Pairing::AsTheyCome), due);
+        comes_of(&rt, alloc, row, words, (1, Pairing::AsTheyCome), due);
     }
-    for (text, record) in REFUSED {
-        match deal_by_key(rt.alloc(), text, 3, Pairing::AsTheyCome) {
-            Err(KeyFault::Piece(PieceFault::Fields(found))) => {
-                check(&rt, "refused", found == *record);
-            }
-            _ => return Err(Fail::new("not refused")),
-        }
+    has_rows(&rt, REFUSED, 5);
+    for row in REFUSED.lines().skip(1) {
+        is_refused(&rt, alloc, row);
     }
-    Ok(())
 }
 
 #[test]
-fn inputs_are_paired_by_their_keys(rt: HostRuntime) -> Result<(), Fail> {
+fn inputs_are_paired_by_their_keys(rt: HostRuntime) {
     let alloc = rt.alloc();
     has_rows(&rt, PAIRED, 23);
     for row in PAIRED.lines().skip(1) {
         let (_, others) = two_cells(&rt, row);
         let (pairing, others) = two_cells(&rt, others);
-        let (records, wanted) = two_cells(&rt, others);
-        let records = bytes_of(&rt, alloc, records);
-        let dealt = deal_by_key(alloc, &records, 1, pairing_of(&rt, pairing));
-        check(
-            &rt,
-            row,
-            told(alloc, dealt)? == bytes_of(&rt, alloc, wanted),
-        );
+        let (words, due) = two_cells(&rt, others);
+        comes_of(&rt, alloc, row, words, (1, pairing_of(&rt, pairing)), due);
     }
-    Ok(())
 }
 
 /// SipHash-1-3 of no bytes, under the key 0, is 15130871412783076140.

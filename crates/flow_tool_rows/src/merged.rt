@@ -1,5 +1,5 @@
 //! Reports of parts that are merged, and those that are not.
-use crate::check::{bytes_of, check, has_rows, head_and_lines, is_due, two_cells};
+use crate::check::{are_due, bytes_of, check, given, has_rows, head_and_lines, two_cells};
 use crate::networks::{ENOUGH, planned, report};
 use flow_outcome::{merge_reports, worst_status};
 use flow_pieces::cut_records;
@@ -149,41 +149,35 @@ const REFUSED: &[(&str, &str)] = &[
 ];
 
 /// The reports that these texts are.
-fn read<'t>(rt: &impl Abort, alloc: Global, texts: &'t [Vec<u8>]) -> Vec<Report<'t>> {
+fn read<'t>(rt: &(impl Abort + Print), alloc: Global, texts: &'t [Vec<u8>]) -> Vec<Report<'t>> {
     let mut reports = Vec::new(alloc);
     for text in texts {
-        let Ok(report) = read_report(alloc, text) else {
-            panic!(rt; "a report could not be read");
-        };
-        assert!(rt; reports.push(report).is_ok(), "out of memory");
+        let report = given(rt, "a report", read_report(alloc, text));
+        given(rt, "reports", reports.push(report));
     }
     reports
 }
 
 /// The report of the whole that these reports of parts come to, or a line that says why they are not merged.
-fn merged(rt: &impl Abort, alloc: Global, network: &[u8], texts: &[Vec<u8>]) -> Vec<u8> {
+fn merged(rt: &(impl Abort + Print), alloc: Global, network: &[u8], texts: &[Vec<u8>]) -> Vec<u8> {
     let plan = planned(rt, alloc, network);
-    let Ok(outline) = outline_of(alloc, &plan) else {
-        panic!(rt; "out of memory");
-    };
+    let outline = given(rt, "an outline", outline_of(alloc, &plan));
+    let parts = read(rt, alloc, texts);
     let mut whole = Vec::new(alloc);
-    match merge_reports(&outline, &read(rt, alloc, texts), &mut whole) {
+    match merge_reports(&outline, &parts, &mut whole) {
         Ok(()) => whole,
-        Err(fault) => match fault.to_string(alloc) {
-            Ok(line) => line.into_bytes(),
-            Err(_) => panic!(rt; "out of memory"),
-        },
+        Err(fault) => given(rt, "a line", fault.to_string(alloc)).into_bytes(),
     }
 }
 
 /// The worst status of these reports.
-fn worst(rt: &impl Abort, alloc: Global, texts: &[Vec<u8>]) -> u8 {
+fn worst(rt: &(impl Abort + Print), alloc: Global, texts: &[Vec<u8>]) -> u8 {
     worst_status(&read(rt, alloc, texts))
 }
 
 /// The reports of runs over these parts.
 fn reports(
-    rt: &impl Abort,
+    rt: &(impl Abort + Print),
     alloc: Global,
     network: &[u8],
     parts: &[&[u8]],
@@ -192,7 +186,7 @@ fn reports(
     let mut reports = Vec::new(alloc);
     for part in parts {
         let report = report(rt, alloc, network, part, limit);
-        assert!(rt; reports.push(report).is_ok(), "out of memory");
+        given(rt, "reports", reports.push(report));
     }
     reports
 }
@@ -217,9 +211,7 @@ fn merges(
 /// Tests that the reports of a chain's records, cut in one to four parts, come to the report of all.
 fn merges_chain(rt: &(impl Abort + Print), alloc: Global, name: &str, network: &[u8]) {
     for count in 1..5 {
-        let Ok(parts) = cut_records(alloc, CHAIN_RECORDS, count) else {
-            panic!(rt; "the records could not be cut");
-        };
+        let parts = given(rt, name, cut_records(alloc, CHAIN_RECORDS, count));
         merges(rt, alloc, name, network, CHAIN_RECORDS, &parts);
     }
 }
@@ -247,20 +239,16 @@ fn is_refused(
     status: u8,
 ) {
     let merged = merged(rt, alloc, network, reports);
-    let line = str::from_utf8(&merged).unwrap_or("no UTF-8");
-    is_due(rt, why, why, line);
+    are_due(rt, why, why.as_bytes(), &merged);
     check(rt, why, worst(rt, alloc, reports) == status);
 }
 
 /// The text of a network of a buffer and a block with these options.
-fn beside_a_buffer(rt: &impl Abort, alloc: Global, options: &str) -> String {
+fn beside_a_buffer(rt: &(impl Abort + Print), alloc: Global, options: &str) -> String {
     let text = format!(in alloc;
         "format = 1\n[[block]]\nname = \"c\"\nkind = \"buffer\"\n[[block]]\nname = \"b\"\n{options}\n"
     );
-    match text {
-        Ok(text) => text,
-        Err(_) => panic!(rt; "out of memory"),
-    }
+    given(rt, options, text)
 }
 
 #[test]
@@ -299,14 +287,12 @@ fn parts_are_refused(rt: HostRuntime) {
 }
 
 /// That report, with these words in the place of those.
-fn passed_report(rt: &impl Abort, alloc: Global, words: &str, others: &str) -> Vec<u8> {
+fn passed_report(rt: &(impl Abort + Print), alloc: Global, words: &str, others: &str) -> Vec<u8> {
     let Some((before, behind)) = PASSED_REPORT.split_once(words) else {
         panic!(rt; "the report has no such words");
     };
-    match format!(in alloc; "{before}{others}{behind}") {
-        Ok(report) => bytes_of(rt, alloc, report.as_str()),
-        Err(_) => panic!(rt; "out of memory"),
-    }
+    let report = format!(in alloc; "{before}{others}{behind}");
+    bytes_of(rt, alloc, given(rt, words, report).as_str())
 }
 
 /// Tests that what a row makes of that report is merged, or refused as a second part.
@@ -316,7 +302,7 @@ fn comes_to(rt: &(impl Abort + Print), alloc: Global, row: &str) {
     let edited = passed_report(rt, alloc, words, others);
     if due == "merged" {
         let alone = [edited];
-        check(rt, row, merged(rt, alloc, PASSED, &alone) == alone[0]);
+        are_due(rt, row, &alone[0], &merged(rt, alloc, PASSED, &alone));
     } else {
         let parts = [bytes_of(rt, alloc, PASSED_REPORT), edited];
         is_refused(rt, alloc, PASSED, &parts, due, 0);

@@ -1,13 +1,12 @@
 //! Pages of networks and of runs.
-use crate::check::{check, has_rows, two_cells};
+use crate::check::{add, check, given, has_rows, is_due, two_cells};
 use crate::networks::{ENOUGH, planned, report};
 use flow_outcome::{Admits, BlockOutline, Kind, LinkOutline, Outline};
 use flow_page::{PageFault, write_page};
 use flow_plan_outline::outline_of;
-use flow_reading::read_report;
+use flow_reading::{Report, read_report};
 use std::alloc::Global;
 use std::process::Abort;
-use std::test::Fail;
 
 /// Texts go to `in`; of the numbers that they are even ones go to `even`, and an odd one stays at `numbers`.
 const NETWORK: &[u8] = br#"format = 1
@@ -33,7 +32,7 @@ a\u{7f}b\u{85}c | a b c
 ";
 
 /// A network of one block with this name, which leads to itself.
-fn loop_named(alloc: Global, name: &str) -> Result<Outline<'_>, Fail> {
+fn loop_named<'n>(rt: &(impl Abort + Print), alloc: Global, name: &'n str) -> Outline<'n> {
     let block = BlockOutline {
         name,
         kind: Kind::Buffer,
@@ -53,141 +52,128 @@ fn loop_named(alloc: Global, name: &str) -> Result<Outline<'_>, Fail> {
         max: None,
         propagate: false,
     };
-    Ok(Outline {
-        blocks: vec![in alloc; block]?,
-        links: vec![in alloc; link]?,
-    })
+    Outline {
+        blocks: given(rt, name, vec![in alloc; block]),
+        links: given(rt, name, vec![in alloc; link]),
+    }
 }
 
-/// The page of a network with this title, alone or with this report.
+/// The page of a network with this title, alone or with this report, or why there is none.
 fn page(
+    rt: &(impl Abort + Print),
     alloc: Global,
     title: &str,
     outline: &Outline,
-    report: Option<&[u8]>,
-) -> Result<String, Fail> {
+    report: Option<&Report>,
+) -> String {
     let mut page = Vec::new(alloc);
-    let written = match report {
-        Some(text) => {
-            let report = read_report(alloc, text)?;
-            write_page(alloc, title, outline, Some(&report), &mut page)
+    match write_page(alloc, title, outline, report, &mut page) {
+        Ok(()) => {
+            let page = given(rt, title, str::from_utf8(&page));
+            given(rt, title, String::from_str(alloc, page))
         }
-        None => write_page(alloc, title, outline, None, &mut page),
-    };
-    match written {
-        Ok(()) => Ok(String::from_str(alloc, str::from_utf8(&page)?)?),
-        Err(PageFault::Misfit(_)) => Ok(String::from_str(alloc, "misfit")?),
-        Err(PageFault::Write | PageFault::Memory) => Ok(String::from_str(alloc, "no page")?),
+        Err(PageFault::Misfit(_)) => given(rt, title, String::from_str(alloc, "misfit")),
+        Err(PageFault::Write | PageFault::Memory) => panic!(rt; "no page of {title}"),
     }
 }
 
-/// The page of a run of that network over these records.
-fn page_of_run(rt: &impl Abort, alloc: Global, records: &[u8]) -> Result<String, Fail> {
-    let plan = planned(rt, alloc, NETWORK);
+/// The page of a run of that network over these records, beside the outline of this network.
+fn page_of_run(
+    rt: &(impl Abort + Print),
+    alloc: Global,
+    outline: &Outline,
+    records: &[u8],
+) -> String {
     let report = report(rt, alloc, NETWORK, records, ENOUGH);
-    page(alloc, "run", &outline_of(alloc, &plan)?, Some(&report))
+    let report = given(rt, "a report", read_report(alloc, &report));
+    page(rt, alloc, "run", outline, Some(&report))
 }
 
-/// Whether these words stand in a text, one behind another.
-fn stand_in(text: &str, words: &[&str]) -> bool {
-    let mut rest = text;
-    for word in words {
-        match rest.split_once(*word) {
+/// Tests that these words, between which `~` stands, are in a page, one behind another.
+fn are_shown(rt: &(impl Abort + Print), page: &str, words: &str) {
+    let mut rest = page;
+    for word in words.split("~") {
+        match rest.split_once(word) {
             Some((_, behind)) => rest = behind,
-            None => return false,
+            None => panic!(rt; "{word}\n  is not shown in\n{page}"),
         }
     }
-    true
+}
+
+/// Tests that what is a row's first cell is shown as its second.
+fn is_escaped(rt: &(impl Abort + Print), alloc: Global, row: &str) {
+    let (text, due) = two_cells(rt, row);
+    let words = format!(in alloc;
+        "<title>{due}</title>~<title>link 0 -&gt; {due}</title>~<text class=\"name\" x=\"36\" y=\"37\">{due}</text>~<summary>{due}  buffer, input</summary>"
+    );
+    let words = given(rt, row, words);
+    let page = page(rt, alloc, text, &loop_named(rt, alloc, text), None);
+    are_shown(rt, page.as_str(), words.as_str());
+    check(rt, row, !page.contains("<script"));
+    check(rt, row, !page.contains("://"));
 }
 
 #[test]
-fn texts_are_escaped(rt: HostRuntime) -> Result<(), Fail> {
-    let alloc = rt.alloc();
+fn texts_are_escaped(rt: HostRuntime) {
     has_rows(&rt, ESCAPES, 6);
     for row in ESCAPES.lines().skip(1) {
-        let (text, due) = two_cells(&rt, row);
-        let page = page(alloc, text, &loop_named(alloc, text)?, None)?;
-        let title = format!(in alloc; "<title>{due}</title>")?;
-        let name = format!(in alloc; "<text class=\"name\" x=\"36\" y=\"37\">{due}</text>")?;
-        let link = format!(in alloc; "<title>link 0 -&gt; {due}</title>")?;
-        let block = format!(in alloc; "<summary>{due}  buffer, input</summary>")?;
-        let words = [title.as_str(), link.as_str(), name.as_str(), block.as_str()];
-        check(&rt, row, stand_in(page.as_str(), &words));
-        check(&rt, row, !page.contains("<script") && !page.contains("://"));
+        is_escaped(&rt, rt.alloc(), row);
     }
-    Ok(())
 }
 
+/// What is shown of that network alone.
+const ALONE: &str =
+    "<h1>net</h1>~<path class=\"link\"~<path class=\"link loose\"~>when even</text>~\
+    <a href=\"#b0\"><rect class=\"box plain\"~\
+    <details id=\"b0\" class=\"plain\"><summary>in  buffer, input</summary>~\
+    <dt>link 0 -&gt; numbers, propagate</dt>~<dt>link 1 -&gt; even, when even</dt>";
+
+/// What is shown of a run with a fault.
+const FAULTED: &str = "<pre class=\"why faulted\">status 1: ~\
+    numbers: faulted with 1 (NotInt) on its message 2, &quot;&lt;b&gt;&quot;~\
+    >3</text>~<rect class=\"box done\"~<rect class=\"box faulted\"~\
+    <details id=\"b1\" class=\"faulted\"><summary>numbers  transform: faulted 1, took 3, holds 2~\
+    <dt>holds at port 0: 2</dt>\n<dd><code>&quot;&lt;b&gt;&quot;</code> <code>&quot;6&quot;</code> </dd>~\
+    <details id=\"b2\" class=\"waiting\">~<details id=\"b0\" class=\"done\">";
+
+/// What is shown of a run in which a value stays.
+const STUCK: &str = "<pre class=\"why waiting\">status 1: ~\
+    numbers: takes no more, and is not through; left: 1, first 5; link 1 admits even alone~\
+    <details id=\"b1\" class=\"waiting\">~<dt>left: 1</dt>\n<dd><code>5</code> </dd>~\
+    <details id=\"b0\" class=\"done\">";
+
+/// What is shown of a hundred and one numbers.
+const RECORDED: &str = "<dt>recorded: 101</dt>\n<dd><code>10</code> <code>20</code> ~\
+    <code>990</code> <code>1000</code> <em>and 1 more</em></dd>";
+
+/// Records of a hundred and one numbers.
+fn many(rt: &(impl Abort + Print), alloc: Global) -> Vec<u8> {
+    let mut records = Vec::new(alloc);
+    for number in 1..102 {
+        let record = given(rt, "a record", format!(in alloc; "in,{number}0\n"));
+        add(rt, &mut records, record.as_bytes());
+    }
+    records
+}
+
+/// Faults come first, and what waits.
 #[test]
-fn networks_are_shown_alone(rt: HostRuntime) -> Result<(), Fail> {
+fn networks_and_runs_are_shown(rt: HostRuntime) {
     let alloc = rt.alloc();
     let plan = planned(&rt, alloc, NETWORK);
-    let outline = outline_of(alloc, &plan)?;
-    let alone = page(alloc, "net", &outline, None)?;
-    let words = [
-        "<h1>net</h1>",
-        "<path class=\"link\"",
-        "<path class=\"link loose\"",
-        ">when even</text>",
-        "<a href=\"#b0\"><rect class=\"box plain\"",
-        "<details id=\"b0\" class=\"plain\"><summary>in  buffer, input</summary>",
-        "<dt>link 0 -&gt; numbers, propagate</dt>",
-        "<dt>link 1 -&gt; even, when even</dt>",
-    ];
-    check(&rt, "alone", stand_in(alone.as_str(), &words));
-    check(
-        &rt,
-        "no run",
-        !alone.contains("<pre") && !alone.contains("took"),
-    );
-    let other = loop_named(alloc, "in")?;
-    let report = report(&rt, alloc, NETWORK, b"in,2\n", ENOUGH);
-    let misfit = page(alloc, "net", &other, Some(&report))?;
-    check(&rt, "of another network", misfit.as_str() == "misfit");
-    Ok(())
-}
-
-#[test]
-fn faults_and_what_waits_come_first(rt: HostRuntime) -> Result<(), Fail> {
-    let alloc = rt.alloc();
-    let faulted = page_of_run(&rt, alloc, b"in,4\nin,<b>\nin,6\n")?;
-    let words = [
-        "<pre class=\"why faulted\">status 1: ",
-        "numbers: faulted with 1 (NotInt) on its message 2, &quot;&lt;b&gt;&quot;",
-        ">3</text>",
-        "<rect class=\"box done\"",
-        "<rect class=\"box faulted\"",
-        "<details id=\"b1\" class=\"faulted\"><summary>numbers  transform: faulted 1, took 3, holds 2",
-        "<dt>holds at port 0: 2</dt>\n<dd><code>&quot;&lt;b&gt;&quot;</code> <code>&quot;6&quot;</code> </dd>",
-        "<details id=\"b2\" class=\"waiting\">",
-        "<details id=\"b0\" class=\"done\">",
-    ];
-    check(&rt, faulted.as_str(), stand_in(faulted.as_str(), &words));
-    let stuck = page_of_run(&rt, alloc, b"in,4\nin,5\n")?;
-    let words = [
-        "<pre class=\"why waiting\">status 1: ",
-        "numbers: takes no more, and is not through; left: 1, first 5; link 1 admits even alone",
-        "<details id=\"b1\" class=\"waiting\">",
-        "<dt>left: 1</dt>\n<dd><code>5</code> </dd>",
-        "<details id=\"b0\" class=\"done\">",
-    ];
-    check(&rt, stuck.as_str(), stand_in(stuck.as_str(), &words));
-    Ok(())
-}
-
-#[test]
-fn a_hundred_of_each_list_are_shown(rt: HostRuntime) -> Result<(), Fail> {
-    let alloc = rt.alloc();
-    let mut records = String::new(alloc);
-    for number in 1..102 {
-        write!(records, "in,{number}0\n")?;
-    }
-    let page = page_of_run(&rt, alloc, records.as_str().as_bytes())?;
-    let words = [
-        "<dt>recorded: 101</dt>\n<dd><code>10</code> <code>20</code> ",
-        "<code>990</code> <code>1000</code> <em>and 1 more</em></dd>",
-    ];
-    check(&rt, "recorded", stand_in(page.as_str(), &words));
-    check(&rt, "the last", !page.contains("<code>1010</code>"));
-    Ok(())
+    let outline = given(&rt, "an outline", outline_of(alloc, &plan));
+    let alone = page(&rt, alloc, "net", &outline, None);
+    are_shown(&rt, alone.as_str(), ALONE);
+    check(&rt, "no run", !alone.contains("<pre"));
+    check(&rt, "no run", !alone.contains("took"));
+    let faulted = page_of_run(&rt, alloc, &outline, b"in,4\nin,<b>\nin,6\n");
+    are_shown(&rt, faulted.as_str(), FAULTED);
+    let stuck = page_of_run(&rt, alloc, &outline, b"in,4\nin,5\n");
+    are_shown(&rt, stuck.as_str(), STUCK);
+    let many = page_of_run(&rt, alloc, &outline, &many(&rt, alloc));
+    are_shown(&rt, many.as_str(), RECORDED);
+    check(&rt, "the last", !many.contains("<code>1010</code>"));
+    let other = loop_named(&rt, alloc, "in");
+    let misfit = page_of_run(&rt, alloc, &other, b"in,2\n");
+    is_due(&rt, "of another network", "misfit", misfit.as_str());
 }

@@ -1,5 +1,5 @@
 //! Where records stand in a text.
-use crate::check::{bytes_of, check, has_rows, two_cells};
+use crate::check::{are_due, bytes_of, check, given, has_rows, number, two_cells};
 use flow_pieces::Records;
 use std::alloc::Global;
 use std::process::Abort;
@@ -18,36 +18,19 @@ in,\"a^~^~b\"~in,2 | 1 in,\"a^~^~b\"~ | 4 in,2
 in~,~\"~ | 1 in~ | 2 ,~ | 3 \"~
 ";
 
-/// The number of the next record, its line and what stands there of it, if there is one.
-fn next_of<'r>(rt: &impl Abort, records: &mut Records<'r>) -> Option<(u64, u64, &'r [u8])> {
-    match records.advance() {
-        Ok(true) => Some((records.number(), records.line(), records.raw())),
-        Ok(false) => None,
-        Err(_) => panic!(rt; "a text could not be read"),
-    }
-}
-
 /// Tests that the record with this number comes next, with the line and the text that are due.
 fn comes_next(
     rt: &(impl Abort + Print),
     alloc: Global,
     records: &mut Records<'_>,
-    number: u64,
+    place: u64,
     due: &str,
 ) {
+    check(rt, due, given(rt, due, records.advance()));
     let (line, words) = due.split_once(" ").unwrap_or(("", due));
-    let raw = bytes_of(rt, alloc, words);
-    let found = next_of(rt, records);
-    let is_due = match found {
-        Some((place, at, text)) => {
-            place == number && line.parse::<u64>().ok() == Some(at) && text == raw.as_slice()
-        }
-        None => false,
-    };
-    assert!(rt;
-        is_due,
-        "record {number}\n  wanted  {due}\n  came    {found:?}"
-    );
+    check(rt, due, records.number() == place);
+    check(rt, due, records.line() == number(rt, line) as u64);
+    are_due(rt, due, &bytes_of(rt, alloc, words), records.raw());
 }
 
 /// Tests that the records of a row stand where they are due, and that there are no others.
@@ -55,14 +38,14 @@ fn stand_where_due(rt: &(impl Abort + Print), alloc: Global, row: &str) {
     let (words, others) = two_cells(rt, row);
     let text = bytes_of(rt, alloc, words);
     let mut records = Records::new(alloc, &text);
-    let mut number = 0u64;
+    let mut place = 0u64;
     for due in others.split(" | ") {
         if due != "none" {
-            number = number.saturating_add(1);
-            comes_next(rt, alloc, &mut records, number, due);
+            place = place.saturating_add(1);
+            comes_next(rt, alloc, &mut records, place, due);
         }
     }
-    check(rt, row, next_of(rt, &mut records).is_none());
+    check(rt, row, !given(rt, row, records.advance()));
 }
 
 #[test]

@@ -1,9 +1,9 @@
 //! Records that are refused, or were hardly meant so: the likely cause, and the line.
-use crate::check::{bytes_of, has_cases, head_and_lines};
-use crate::told::begins;
+use crate::check::{bytes_of, given, has_cases, head_and_lines};
+use crate::told::{begins, text_of};
 use flow_explain::{Source, Style, check_both};
 use std::alloc::Global;
-use std::test::Fail;
+use std::process::Abort;
 
 /// An input and a block that is none.
 const NETWORK: &str = r#"format = 1
@@ -66,14 +66,11 @@ rec:2:1: warning: the value of record 2 begins with a blank, which is part of it
 ";
 
 #[test]
-fn causes_are_told_with_their_lines(rt: HostRuntime) -> Result<(), Fail> {
+fn causes_are_told_with_their_lines(rt: HostRuntime) {
     has_cases(&rt, RECORDS, 21);
     for case in RECORDS.split("\ncase ").skip(1) {
-        let (words, wanted) = head_and_lines(case);
-        let told = told_of(rt.alloc(), NETWORK, &bytes_of(&rt, rt.alloc(), words))?;
-        begins(&rt, case, told.as_str(), wanted);
+        is_told(&rt, rt.alloc(), NETWORK, case);
     }
-    Ok(())
 }
 
 /// Two inputs that take one message in all, and one that takes as many as come.
@@ -100,24 +97,27 @@ rec:6:1: warning: record 6 is the second for \"two\", a write_once block, which 
 ";
 
 #[test]
-fn second_records_are_told(rt: HostRuntime) -> Result<(), Fail> {
+fn second_records_are_told(rt: HostRuntime) {
     has_cases(&rt, SECONDS, 2);
     for case in SECONDS.split("\ncase ").skip(1) {
-        let (words, wanted) = head_and_lines(case);
-        let told = told_of(rt.alloc(), TAKERS, &bytes_of(&rt, rt.alloc(), words))?;
-        begins(&rt, case, told.as_str(), wanted);
+        is_told(&rt, rt.alloc(), TAKERS, case);
     }
-    Ok(())
 }
 
-/// What is printed of these records in the short style.
-fn told_of(alloc: Global, network: &str, text: &[u8]) -> Result<String, Fail> {
+/// Tests that lines as a case has them are printed of its records in the short style.
+fn is_told(rt: &(impl Abort + Print), alloc: Global, network: &str, case: &str) {
+    let (words, wanted) = head_and_lines(case);
+    let records = bytes_of(rt, alloc, words);
     let mut out = Vec::new(alloc);
     let network = Source {
         name: "net",
         text: network.as_bytes(),
     };
-    let records = Source { name: "rec", text };
-    check_both(alloc, network, records, Style::Short, &mut out)?;
-    Ok(String::from_utf8_lossy(alloc, out.as_slice())?)
+    let source = Source {
+        name: "rec",
+        text: &records,
+    };
+    let both = check_both(alloc, network, source, Style::Short, &mut out);
+    given(rt, case, both);
+    begins(rt, case, text_of(rt, alloc, &out).as_str(), wanted);
 }

@@ -1,10 +1,9 @@
 //! Networks that are refused: each is explained by its fault, at the place where it stands.
-use crate::check::{bytes_of, check, has_rows, is_due, two_cells};
-use crate::told::{first_flaw, is_flawed, lines_of, unmarked};
+use crate::check::{add_words, bytes_of, check, given, has_rows, number, two_cells};
+use crate::told::{flaw_in, is_flawed, lines_of, unmarked};
 use flow_places::line_of;
-use std::alloc::{AllocError, Global};
+use std::alloc::Global;
 use std::process::Abort;
-use std::test::Fail;
 
 /// In each row the line of a refusal, the line of the text where the fault stands, and the text, as `bytes_of` reads it.
 const WHOLE: &str = "
@@ -259,126 +258,154 @@ const LINKS: &str = "
 fn is_told_on(
     rt: &(impl Abort + Print),
     alloc: Global,
+    row: &str,
     text: &[u8],
     line: &str,
     wanted: &str,
-) -> Result<(), Fail> {
-    let (fault, span) = first_flaw(alloc, text)?;
+) {
+    let span = flaw_in(rt, alloc, row, text, line);
     let text = text.strip_prefix(b"\xef\xbb\xbf").unwrap_or(text);
-    let found = line_of(text, span.start).to_string(alloc)?;
-    is_due(rt, wanted, line, fault.as_str());
-    check(rt, line, wanted.split(" ").any(|one| one == found.as_str()));
-    Ok(())
+    let found = line_of(text, span.start);
+    check(rt, row, is_among(rt, wanted, found));
+}
+
+// Whether a number is one of these.
+fn is_among(rt: &(impl Abort + Print), numbers: &str, found: usize) -> bool {
+    for digits in numbers.split(" ") {
+        if number(rt, digits) == found {
+            return true;
+        }
+    }
+    false
 }
 
 #[test]
-fn whole_texts_are_told_on_their_lines(rt: HostRuntime) -> Result<(), Fail> {
+fn whole_texts_are_told_on_their_lines(rt: HostRuntime) {
     has_rows(&rt, WHOLE, 18);
     for row in WHOLE.lines().skip(1) {
         let (line, others) = two_cells(&rt, row);
         let (wanted, words) = two_cells(&rt, others);
         let text = bytes_of(&rt, rt.alloc(), words);
-        is_told_on(&rt, rt.alloc(), &text, line, wanted)?;
+        is_told_on(&rt, rt.alloc(), row, &text, line, wanted);
     }
-    Ok(())
+}
+
+// Tests that a text is flawed so at what is marked in it.
+fn is_flawed_there(rt: &(impl Abort + Print), alloc: Global, row: &str, marked: &str, line: &str) {
+    let (text, span) = unmarked(rt, alloc, marked);
+    is_flawed(rt, alloc, row, text.as_bytes(), line, span);
 }
 
 // Tests each row of a table, in which the line of a refusal stands before what makes a marked text.
-fn check_rows(rt: &(impl Abort + Print), alloc: Global, table: &str) -> Result<(), Fail> {
+fn check_rows(rt: &(impl Abort + Print), alloc: Global, table: &str) {
     for row in table.lines().skip(1) {
         if row.starts_with("#") {
             continue;
         }
         let (line, others) = two_cells(rt, row);
-        let marked = lines_of(alloc, others)?;
-        let (text, span) = unmarked(alloc, marked.as_str())?;
-        is_flawed(rt, alloc, row, text.as_bytes(), line, span)?;
+        let marked = lines_of(rt, alloc, others);
+        is_flawed_there(rt, alloc, row, marked.as_str(), line);
     }
-    Ok(())
 }
 
 #[test]
-fn faults_are_told_where_they_stand(rt: HostRuntime) -> Result<(), Fail> {
+fn faults_are_told_where_they_stand(rt: HostRuntime) {
     has_rows(&rt, TEXTS, 152);
-    check_rows(&rt, rt.alloc(), TEXTS)
+    check_rows(&rt, rt.alloc(), TEXTS);
 }
 
 #[test]
-fn faults_under_headers_are_told_where_they_stand(rt: HostRuntime) -> Result<(), Fail> {
+fn faults_under_headers_are_told_where_they_stand(rt: HostRuntime) {
     has_rows(&rt, HEADERS, 21);
-    check_rows(&rt, rt.alloc(), HEADERS)
+    check_rows(&rt, rt.alloc(), HEADERS);
 }
 
 #[test]
-fn steps_that_there_are_not_are_told(rt: HostRuntime) -> Result<(), Fail> {
+fn steps_that_there_are_not_are_told(rt: HostRuntime) {
     let alloc = rt.alloc();
     has_rows(&rt, WORKS, 21);
     for work in WORKS.lines().skip(1) {
         let marked = format!(in alloc;
             "format = 1\nblock = [{{name = \"a\", kind = \"action\", work = {work}}}]\n"
-        )?;
-        let (text, span) = unmarked(alloc, marked.as_str())?;
-        is_flawed(&rt, alloc, work, text.as_bytes(), "5 BadWork block 0", span)?;
+        );
+        let marked = given(&rt, work, marked);
+        is_flawed_there(&rt, alloc, work, marked.as_str(), "5 BadWork block 0");
     }
-    Ok(())
 }
 
 // The five blocks with these links, each written as `a>b`.
-fn linked(alloc: Global, links: &str) -> Result<String, Fail> {
-    let mut text = String::from_str(alloc, "format = 1\n")?;
-    text.push_str(FIVE)?;
+fn linked(rt: &(impl Abort + Print), alloc: Global, links: &str) -> String {
+    let mut text = given(rt, links, String::from_str(alloc, "format = 1\n"));
+    add_words(rt, &mut text, FIVE);
     for link in links.split(" ") {
-        let (from, to) = link.split_once(">").ok_or("no link")?;
-        let link = format!(in alloc; "\n\n[[link]]\nfrom = {from:?}\nto = {to:?}")?;
-        text.push_str(link.as_str())?;
+        let (from, to) = link.split_once(">").unwrap_or(("", link));
+        add_words(rt, &mut text, "\n\n[[link]]\nfrom = \"");
+        add_words(rt, &mut text, from);
+        add_words(rt, &mut text, "\"\nto = \"");
+        add_words(rt, &mut text, to);
+        add_words(rt, &mut text, "\"");
     }
-    Ok(text)
+    text
 }
 
 #[test]
-fn links_are_told_on_their_lines(rt: HostRuntime) -> Result<(), Fail> {
+fn links_are_told_on_their_lines(rt: HostRuntime) {
     has_rows(&rt, LINKS, 9);
     for row in LINKS.lines().skip(1) {
         let (line, others) = two_cells(&rt, row);
         let (links, wanted) = two_cells(&rt, others);
-        let text = linked(rt.alloc(), links)?;
-        is_told_on(&rt, rt.alloc(), text.as_bytes(), line, wanted)?;
+        let text = linked(&rt, rt.alloc(), links);
+        is_told_on(&rt, rt.alloc(), row, text.as_bytes(), line, wanted);
     }
-    Ok(())
 }
 
-/// So many buffers in a chain, so many links to no block, the line of the refusal, and the line of the text. A block is
-/// three lines, and so is a link; the first block begins on line 2.
-const LARGE: &[(usize, usize, &str, &str)] = &[
-    (257, 1, "8 Plan 1 Limit", "770"),
-    (1, 1_025, "8 Plan 1 Limit", "3077"),
-    (1, 1_024, "8 Plan 3 UnknownBlock link 0", "7"),
-    (256, 769, "8 Plan 3 UnknownBlock link 255", "1537"),
-    (256, 770, "8 Plan 1 Limit", "3842"),
-];
+/// In each row how many buffers are in a chain, how many links lead to no block, the line of the refusal, and the line of the
+/// text. A block is three lines, and so is a link; the first block begins on line 2.
+const LARGE: &str = "
+257 | 1 | 8 Plan 1 Limit | 770
+1 | 1025 | 8 Plan 1 Limit | 3077
+1 | 1024 | 8 Plan 3 UnknownBlock link 0 | 7
+256 | 769 | 8 Plan 3 UnknownBlock link 255 | 1537
+256 | 770 | 8 Plan 1 Limit | 3842
+";
 
-fn large(alloc: Global, buffers: usize, strays: usize) -> Result<String, AllocError> {
-    let mut text = String::from_str(alloc, "format = 1\n")?;
-    for number in 0..buffers {
-        let block = format!(in alloc; "[[block]]\nname = \"b{number}\"\nkind = \"buffer\"\n")?;
-        text.push_str(block.as_str())?;
+// So many buffers in a chain, behind the line of the format.
+fn buffers(rt: &(impl Abort + Print), alloc: Global, count: usize) -> String {
+    let mut text = given(rt, "buffers", String::from_str(alloc, "format = 1\n"));
+    for number in 0..count {
+        let block = format!(in alloc; "[[block]]\nname = \"b{number}\"\nkind = \"buffer\"\n");
+        add_words(rt, &mut text, given(rt, "a block", block).as_str());
     }
-    for number in 1..buffers {
+    text
+}
+
+// Adds the links of a chain of so many buffers.
+fn add_chain(rt: &(impl Abort + Print), alloc: Global, text: &mut String, count: usize) {
+    for number in 1..count {
         let before = number.saturating_sub(1);
-        let link = format!(in alloc; "[[link]]\nfrom = \"b{before}\"\nto = \"b{number}\"\n")?;
-        text.push_str(link.as_str())?;
+        let link = format!(in alloc; "[[link]]\nfrom = \"b{before}\"\nto = \"b{number}\"\n");
+        add_words(rt, text, given(rt, "a link", link).as_str());
     }
-    for _ in 0..strays {
-        text.push_str("[[link]]\nfrom = \"b0\"\nto = \"no\"\n")?;
+}
+
+// Adds so many links from the first buffer to no block.
+fn add_strays(rt: &impl Abort, text: &mut String, count: usize) {
+    for _ in 0..count {
+        add_words(rt, text, "[[link]]\nfrom = \"b0\"\nto = \"no\"\n");
     }
-    Ok(text)
 }
 
 #[test]
-fn limits_are_told_at_what_is_too_much(rt: HostRuntime) -> Result<(), Fail> {
-    for (buffers, strays, line, wanted) in LARGE {
-        let text = large(rt.alloc(), *buffers, *strays)?;
-        is_told_on(&rt, rt.alloc(), text.as_bytes(), line, wanted)?;
+fn limits_are_told_at_what_is_too_much(rt: HostRuntime) {
+    let alloc = rt.alloc();
+    has_rows(&rt, LARGE, 5);
+    for row in LARGE.lines().skip(1) {
+        let (chain, others) = two_cells(&rt, row);
+        let (strays, others) = two_cells(&rt, others);
+        let (line, wanted) = two_cells(&rt, others);
+        let mut text = buffers(&rt, alloc, number(&rt, chain));
+        add_chain(&rt, alloc, &mut text, number(&rt, chain));
+        add_strays(&rt, &mut text, number(&rt, strays));
+        is_told_on(&rt, alloc, row, text.as_bytes(), line, wanted);
     }
-    Ok(())
 }

@@ -1,9 +1,9 @@
 //! Results in each form.
-use crate::check::check;
+use crate::check::{are_due, check, given, is_due};
 use crate::reports::IMPORT;
 use flow_outcome::{ResultsForm, results_by_action, write_results};
 use std::alloc::Global;
-use std::test::Fail;
+use std::process::Abort;
 
 /// Values of each kind, at two actions.
 const VALUES: &str = "block a done
@@ -63,82 +63,72 @@ const JSON: &str = r#"{
 }
 "#;
 
-/// What is written of a report, or why nothing is.
-fn results(
+/// Tests that this is written of a report, or said where nothing is.
+fn is_written(
+    rt: &(impl Abort + Print),
     alloc: Global,
     report: &[u8],
     names: &[&str],
     form: ResultsForm,
-) -> Result<String, Fail> {
+    due: &str,
+) {
     let mut text: Vec<u8> = Vec::new(alloc);
     match write_results(alloc, report, names, form, &mut text) {
-        Ok(()) => Ok(String::from_str(alloc, str::from_utf8(&text)?)?),
-        Err(error) => Ok(format!(in alloc; "{error}")?),
+        Ok(()) => are_due(rt, due, due.as_bytes(), &text),
+        Err(error) => {
+            let told = given(rt, due, format!(in alloc; "{error}"));
+            is_due(rt, due, due, told.as_str());
+        }
     }
 }
 
 #[test]
-fn results_come_in_four_forms(rt: HostRuntime) -> Result<(), Fail> {
-    for (form, due) in [
-        (ResultsForm::Csv, CSV),
-        (ResultsForm::NamedCsv, NAMED_CSV),
-        (ResultsForm::JsonLines, JSON_LINES),
-        (ResultsForm::Json, JSON),
-    ] {
-        let text = results(rt.alloc(), VALUES.as_bytes(), &[], form)?;
-        check(&rt, due, text.as_str() == due);
-    }
-    Ok(())
+fn results_come_in_four_forms(rt: HostRuntime) {
+    let (alloc, values) = (rt.alloc(), VALUES.as_bytes());
+    is_written(&rt, alloc, values, &[], ResultsForm::Csv, CSV);
+    is_written(&rt, alloc, values, &[], ResultsForm::NamedCsv, NAMED_CSV);
+    is_written(&rt, alloc, values, &[], ResultsForm::JsonLines, JSON_LINES);
+    is_written(&rt, alloc, values, &[], ResultsForm::Json, JSON);
 }
 
 #[test]
-fn results_of_blocks_by_name(rt: HostRuntime) -> Result<(), Fail> {
-    let numbers = results(rt.alloc(), IMPORT, &["order_numbers"], ResultsForm::Csv)?;
+fn results_of_blocks_by_name(rt: HostRuntime) {
+    let (alloc, lines) = (rt.alloc(), ResultsForm::JsonLines);
     let due = "order_numbers,1001\norder_numbers,1002\norder_numbers,1003\n";
-    check(&rt, "numbers", numbers.as_str() == due);
-    let labels = results(rt.alloc(), IMPORT, &["labels"], ResultsForm::Json)?;
-    check(
+    is_written(
         &rt,
-        "labels",
-        labels.as_str()
-            == "{\n\"labels\":[\"Ada Lovelace\",\"Hopper, Grace\",\"Zoë \\\"Zed\\\" Müller\"]\n}\n",
+        alloc,
+        IMPORT,
+        &["order_numbers"],
+        ResultsForm::Csv,
+        due,
     );
-    for (name, due) in [
-        ("no\nbody", "the report has no block \"no\\nbody\""),
-        ("orders", "block orders is no action, so it has no results"),
-    ] {
-        let text = results(
-            rt.alloc(),
-            IMPORT,
-            &["labels", name],
-            ResultsForm::JsonLines,
-        )?;
-        check(&rt, name, text.as_str() == due);
-    }
-    Ok(())
+    let due = "{\n\"labels\":[\"Ada Lovelace\",\"Hopper, Grace\",\"Zoë \\\"Zed\\\" Müller\"]\n}\n";
+    is_written(&rt, alloc, IMPORT, &["labels"], ResultsForm::Json, due);
+    let due = "the report has no block \"no\\nbody\"";
+    is_written(&rt, alloc, IMPORT, &["labels", "no\nbody"], lines, due);
+    let due = "block orders is no action, so it has no results";
+    is_written(&rt, alloc, IMPORT, &["labels", "orders"], lines, due);
+}
+
+/// Tests that there are no results of the block with this name.
+fn is_refused(rt: &(impl Abort + Print), alloc: Global, report: &str, name: &str) {
+    let refused = results_by_action(alloc, report.as_bytes(), &[name], ResultsForm::Csv);
+    check(rt, name, refused.is_err());
 }
 
 /// An action by its name, a block that is none, and a report without an action.
 #[test]
-fn results_by_action_are_those_of_its_name(rt: HostRuntime) -> Result<(), Fail> {
-    let form = ResultsForm::Csv;
-    let Ok(all) = results_by_action(rt.alloc(), VALUES.as_bytes(), &["c"], form) else {
-        return Err(Fail::new("no results"));
-    };
-    match all.as_slice() {
-        [action] => {
-            let text = str::from_utf8(action.text.as_slice())?;
-            check(&rt, "c alone", text == "c,9223372036854775807\n");
-        }
-        _ => return Err(Fail::new("not one action")),
+fn results_by_action_are_those_of_its_name(rt: HostRuntime) {
+    let (alloc, values, form) = (rt.alloc(), VALUES.as_bytes(), ResultsForm::Csv);
+    let alone = results_by_action(alloc, values, &["c"], form);
+    match given(&rt, "c alone", alone).as_slice() {
+        [action] => are_due(&rt, "c alone", b"c,9223372036854775807\n", &action.text),
+        _ => check(&rt, "one action", false),
     }
-    for (report, name) in [(VALUES, "b"), (VALUES, "d"), ("no report", "a")] {
-        let refused = results_by_action(rt.alloc(), report.as_bytes(), &[name], form);
-        check(&rt, name, refused.is_err());
-    }
-    match results_by_action(rt.alloc(), b"quiet\n", &[], form) {
-        Ok(all) => check(&rt, "no action", all.is_empty()),
-        Err(_) => return Err(Fail::new("no results of no block")),
-    }
-    Ok(())
+    is_refused(&rt, alloc, VALUES, "b");
+    is_refused(&rt, alloc, VALUES, "d");
+    is_refused(&rt, alloc, "no report", "a");
+    let none = results_by_action(alloc, b"quiet\n", &[], form);
+    check(&rt, "no action", given(&rt, "no block", none).is_empty());
 }

@@ -1,20 +1,12 @@
 //! Records that are run alone.
-use crate::check::{check, is_due};
-use flow_sift::{Sifted, sift};
+use crate::check::{are_due, bytes_of, check, given, has_rows, two_cells};
+use flow_sift::sift;
 use flow_text::{TextFault, TextPlace, TextRefusal};
 use std::alloc::Global;
+use std::process::Abort;
 
 /// More events than any record here needs.
 const ENOUGH: u64 = 1_000;
-
-/// A situation: its name, the network, the records, those that pass, and the lines of the others.
-type Case = (
-    &'static str,
-    &'static str,
-    &'static [u8],
-    &'static [u8],
-    &'static str,
-);
 
 const CHAIN: &str = r#"format = 1
 block = [
@@ -52,105 +44,70 @@ link = [
 ]
 "#;
 
-const CASES: &[Case] = &[
-    ("no records", CHAIN, b"", b"", ""),
-    ("all pass", CHAIN, b"in,1\nin,2\n", b"in,1\nin,2\n", ""),
-    (
-        "one faults",
-        CHAIN,
-        b"in,1\r\nin,seven\r\nin,3",
-        b"in,1\r\nin,3",
-        "record 2, line 2: cents faulted with 1 (NotInt): \"in,seven\"\n",
-    ),
-    (
-        "the lines are those of the text",
-        CHAIN,
-        b"\nin,\"1\n\"\n\nin,2\nin,9223372036854775807\n",
-        b"in,2\n",
-        "record 1, line 2: cents faulted with 1 (NotInt): \"in,\\\"1\\n\\\"\"\n\
-         record 3, line 6: cents faulted with 5 (Range): \"in,9223372036854775807\"\n",
-    ),
-    (
-        "records that can't be read",
-        CHAIN,
-        b"in\nin,\xff\nout,1\nnone,1\nin,1,2\n\xff,1,2\n\xff,1\nin,1\n",
-        b"in,1\n",
-        "record 1, line 1: 9 Csv, it has not exactly two fields: \"in\"\n\
-         record 2, line 2: 10 NotUtf8, a field is not UTF-8: \"in,\\xff\"\n\
-         record 3, line 3: 11 UnknownInput, its first field names no input: \"out,1\"\n\
-         record 4, line 4: 11 UnknownInput, its first field names no input: \"none,1\"\n\
-         record 5, line 5: 9 Csv, it has not exactly two fields: \"in,1,2\"\n\
-         record 6, line 6: 9 Csv, it has not exactly two fields: \"\\xff,1,2\"\n\
-         record 7, line 7: 10 NotUtf8, a field is not UTF-8: \"\\xff,1\"\n",
-    ),
-    (
-        "a value too many",
-        TWO,
-        b"in,1\nin,2\nin,0\n",
-        b"in,1\n",
-        "record 2, line 2: two faulted with 7 (NotOne): \"in,2\"\n\
-         record 3, line 3: two faulted with 7 (NotOne): \"in,0\"\n",
-    ),
-    (
-        "a group that is never full is no fault",
-        PAIRS,
-        b"in,1\nin,x\n",
-        b"in,1\n",
-        "record 2, line 2: sums faulted with 1 (NotInt): \"in,x\"\n",
-    ),
-];
+/// In each row the name of a situation, a network, the records, those that pass, and the lines of the others, as `bytes_of` reads
+/// them.
+const CASES: &str = r#"
+no records | chain | nothing | nothing | nothing
+all pass | chain | in,1~in,2~ | in,1~in,2~ | nothing
+one faults | chain | in,1^~in,seven^~in,3 | in,1^~in,3 | record 2, line 2: cents faulted with 1 (NotInt): "in,seven"~
+the lines are those of the text | chain | ~in,"1~"~~in,2~in,9223372036854775807~ | in,2~ | record 1, line 2: cents faulted with 1 (NotInt): "in,\"1\n\""~record 3, line 6: cents faulted with 5 (Range): "in,9223372036854775807"~
+records that can't be read | chain | in~in,ÿ~out,1~none,1~in,1,2~ÿ,1,2~ÿ,1~in,1~ | in,1~ | record 1, line 1: 9 Csv, it has not exactly two fields: "in"~record 2, line 2: 10 NotUtf8, a field is not UTF-8: "in,\xff"~record 3, line 3: 11 UnknownInput, its first field names no input: "out,1"~record 4, line 4: 11 UnknownInput, its first field names no input: "none,1"~record 5, line 5: 9 Csv, it has not exactly two fields: "in,1,2"~record 6, line 6: 9 Csv, it has not exactly two fields: "\xff,1,2"~record 7, line 7: 10 NotUtf8, a field is not UTF-8: "\xff,1"~
+a value too many | two | in,1~in,2~in,0~ | in,1~ | record 2, line 2: two faulted with 7 (NotOne): "in,2"~record 3, line 3: two faulted with 7 (NotOne): "in,0"~
+a group that is never full is no fault | pairs | in,1~in,x~ | in,1~ | record 2, line 2: sums faulted with 1 (NotInt): "in,x"~
+"#;
 
-/// What sifting comes to: the records that pass, the lines of the others, and how many are set aside.
-#[derive(Drop)]
-struct Outcome {
-    good: Vec<u8>,
-    bad: Vec<u8>,
-    found: Result<Sifted, TextRefusal>,
+/// The network with this name.
+fn network_of(rt: &(impl Abort + Print), name: &str) -> &'static str {
+    match name {
+        "chain" => CHAIN,
+        "two" => TWO,
+        "pairs" => PAIRS,
+        _ => panic!(rt; "no network: {name}"),
+    }
 }
 
-fn sifted(alloc: Global, network: &[u8], records: &[u8], limit: u64) -> Outcome {
-    let mut good = Vec::new(alloc);
-    let mut bad = Vec::new(alloc);
-    let found = sift(alloc, network, records, limit, &mut good, &mut bad);
-    Outcome { good, bad, found }
+/// Tests that the records of a row go where they are due, and that those set aside are counted.
+fn go_where_due(rt: &(impl Abort + Print), alloc: Global, row: &str) {
+    let (_, others) = two_cells(rt, row);
+    let (name, others) = two_cells(rt, others);
+    let (words, others) = two_cells(rt, others);
+    let (passed, lines) = two_cells(rt, others);
+    let network = network_of(rt, name).as_bytes();
+    let records = bytes_of(rt, alloc, words);
+    let (mut good, mut bad) = (Vec::new(alloc), Vec::new(alloc));
+    let sifted = sift(alloc, network, &records, ENOUGH, &mut good, &mut bad);
+    let found = given(rt, row, sifted);
+    are_due(rt, row, &bytes_of(rt, alloc, passed), &good);
+    are_due(rt, row, &bytes_of(rt, alloc, lines), &bad);
+    let count = lines.split("~").skip(1).count() as u64;
+    check(rt, row, found.set_aside == count);
 }
 
 #[test]
 fn records_go_where_due(rt: HostRuntime) {
-    for (name, network, records, due, lines) in CASES {
-        let sifted = sifted(rt.alloc(), network.as_bytes(), records, ENOUGH);
-        check(&rt, name, sifted.good.as_slice() == *due);
-        is_due(
-            &rt,
-            name,
-            lines,
-            str::from_utf8(&sifted.bad).unwrap_or("no UTF-8"),
-        );
-        let aside = match sifted.found {
-            Ok(found) => found.set_aside,
-            Err(_) => panic!(&rt; "{name} is refused"),
-        };
-        check(&rt, name, aside == lines.lines().count() as u64);
+    has_rows(&rt, CASES, 7);
+    for row in CASES.lines().skip(1) {
+        go_where_due(&rt, rt.alloc(), row);
     }
 }
 
 #[test]
 fn networks_and_limits_are_told(rt: HostRuntime) {
+    let alloc = rt.alloc();
+    let (mut good, mut bad) = (Vec::new(alloc), Vec::new(alloc));
     let unnamed = b"format = 1\n[[block]]\nkind = \"buffer\"\n";
-    let none = sifted(rt.alloc(), unnamed, b"in,1\n", ENOUGH);
-    let due = TextRefusal::Fault(TextFault::MissingKey(TextPlace::Block(0)));
-    check(&rt, "no network", none.found == Err(due));
-    check(
-        &rt,
-        "nothing is written",
-        none.good.is_empty() && none.bad.is_empty(),
+    let refused = sift(alloc, unnamed, b"in,1\n", ENOUGH, &mut good, &mut bad);
+    let is_due = matches!(
+        refused,
+        Err(TextRefusal::Fault(TextFault::MissingKey(TextPlace::Block(0))))
     );
+    check(&rt, "no network", is_due);
+    are_due(&rt, "nothing is set aside", b"", &bad);
 
-    let stopped = sifted(rt.alloc(), CHAIN.as_bytes(), b"in,1\n", 3);
-    let due = "record 1, line 1: stopped at the limit of events: \"in,1\"\n";
-    check(
-        &rt,
-        "a limit",
-        stopped.good.is_empty() && stopped.bad.as_slice() == due.as_bytes(),
-    );
+    let network = network_of(&rt, "chain").as_bytes();
+    let stopped = sift(alloc, network, b"in,1\n", 3, &mut good, &mut bad);
+    given(&rt, "a limit", stopped);
+    are_due(&rt, "nothing passes", b"", &good);
+    let due = b"record 1, line 1: stopped at the limit of events: \"in,1\"\n";
+    are_due(&rt, "a limit", due, &bad);
 }

@@ -1,10 +1,8 @@
 //! Records that are sifted together, beside the same records each sifted by itself.
-use crate::check::check;
+use crate::check::{add, are_due, check, given, has_cases, head_and_lines};
 use flow_sift::sift;
-use flow_text::TextRefusal;
 use std::alloc::Global;
 use std::process::Abort;
-use std::test::Fail;
 
 /// More events than any record here needs alone, and fewer than some of them need together.
 const LIMIT: u64 = 2_000;
@@ -12,11 +10,9 @@ const LIMIT: u64 = 2_000;
 /// How many records come together: more than are run at once.
 const COUNT: u64 = 80;
 
-/// Networks by what is apart in each. Each has the inputs `a` and `b`.
-const NETWORKS: &[(&str, &str)] = &[
-    (
-        "two chains",
-        r#"
+/// Behind `case` stands what is apart in a network, and below that its blocks and links. Each has the inputs `a` and `b`.
+const NETWORKS: &str = r#"
+case two chains
 block = [
   { name = "a", kind = "buffer", input = true },
   { name = "b", kind = "transform", input = true, work = ["int", "mul 4611686018427387904"] },
@@ -26,11 +22,8 @@ block = [
 link = [
   { from = "a", to = "out", propagate = true },
   { from = "b", to = "last", propagate = true },
-]"#,
-    ),
-    (
-        "ways by value, and one that none takes",
-        r#"
+]
+case ways by value, and one that none takes
 block = [
   { name = "a", kind = "transform", input = true, work = ["int"] },
   { name = "b", kind = "transform", input = true, work = ["int"] },
@@ -42,11 +35,8 @@ link = [
   { from = "a", to = "even", when = "even" },
   { from = "a", to = "low", when = "lt 150" },
   { from = "b", to = "few", when = "lt 100" },
-]"#,
-    ),
-    (
-        "a link that counts",
-        r#"
+]
+case a link that counts
 block = [
   { name = "a", kind = "buffer", input = true },
   { name = "b", kind = "buffer", input = true },
@@ -56,11 +46,8 @@ block = [
 link = [
   { from = "a", to = "first", max = 3, propagate = true },
   { from = "a", to = "later", propagate = true },
-]"#,
-    ),
-    (
-        "room for one, with another way behind it",
-        r#"
+]
+case room for one, with another way behind it
 block = [
   { name = "a", kind = "buffer", input = true },
   { name = "b", kind = "buffer", input = true },
@@ -72,11 +59,8 @@ link = [
   { from = "a", to = "first", propagate = true },
   { from = "a", to = "later", propagate = true },
   { from = "first", to = "last", propagate = true },
-]"#,
-    ),
-    (
-        "room for one on the only way",
-        r#"
+]
+case room for one on the only way
 block = [
   { name = "a", kind = "buffer", input = true, capacity = 1 },
   { name = "b", kind = "transform_many", input = true, work = ["int", "repeat 3"], capacity = 2 },
@@ -86,11 +70,8 @@ block = [
 link = [
   { from = "a", to = "out", propagate = true },
   { from = "b", to = "last", propagate = true },
-]"#,
-    ),
-    (
-        "tuples that fault",
-        r#"
+]
+case tuples that fault
 block = [
   { name = "a", kind = "transform", input = true, work = ["int"] },
   { name = "b", kind = "buffer", input = true },
@@ -101,11 +82,8 @@ link = [
   { from = "a", to = "pairs", port = 0, propagate = true },
   { from = "b", to = "pairs", port = 1, propagate = true },
   { from = "pairs", to = "out", propagate = true },
-]"#,
-    ),
-    (
-        "tuples that reserve, and fault by their sum",
-        r#"
+]
+case tuples that reserve, and fault by their sum
 block = [
   { name = "a", kind = "transform", input = true, work = ["int"] },
   { name = "b", kind = "transform", input = true, work = ["int"] },
@@ -116,11 +94,8 @@ link = [
   { from = "a", to = "pairs", port = 0, propagate = true },
   { from = "b", to = "pairs", port = 1, propagate = true },
   { from = "pairs", to = "out", propagate = true },
-]"#,
-    ),
-    (
-        "a record that meets itself",
-        r#"
+]
+case a record that meets itself
 block = [
   { name = "a", kind = "broadcast", input = true },
   { name = "b", kind = "buffer", input = true },
@@ -135,11 +110,8 @@ link = [
   { from = "left", to = "pairs", port = 0, propagate = true },
   { from = "right", to = "pairs", port = 1, propagate = true },
   { from = "pairs", to = "out", propagate = true },
-]"#,
-    ),
-    (
-        "copies",
-        r#"
+]
+case copies
 block = [
   { name = "a", kind = "broadcast", input = true },
   { name = "b", kind = "buffer", input = true },
@@ -149,11 +121,8 @@ block = [
 link = [
   { from = "a", to = "left", propagate = true },
   { from = "a", to = "right", propagate = true },
-]"#,
-    ),
-    (
-        "copies that may be missed",
-        r#"
+]
+case copies that may be missed
 block = [
   { name = "a", kind = "broadcast", input = true },
   { name = "b", kind = "buffer", input = true },
@@ -165,11 +134,8 @@ link = [
   { from = "a", to = "left", propagate = true },
   { from = "a", to = "right", propagate = true },
   { from = "left", to = "out", propagate = true },
-]"#,
-    ),
-    (
-        "groups",
-        r#"
+]
+case groups
 block = [
   { name = "a", kind = "buffer", input = true },
   { name = "b", kind = "buffer", input = true },
@@ -181,11 +147,8 @@ link = [
   { from = "a", to = "rows", propagate = true },
   { from = "rows", to = "out", propagate = true },
   { from = "b", to = "last", propagate = true },
-]"#,
-    ),
-    (
-        "groups of two inputs",
-        r#"
+]
+case groups of two inputs
 block = [
   { name = "a", kind = "buffer", input = true },
   { name = "b", kind = "buffer", input = true },
@@ -196,21 +159,15 @@ link = [
   { from = "a", to = "rows", port = 0, propagate = true },
   { from = "b", to = "rows", port = 1, propagate = true },
   { from = "rows", to = "out", propagate = true },
-]"#,
-    ),
-    (
-        "one message in all",
-        r#"
+]
+case one message in all
 block = [
   { name = "a", kind = "write_once", input = true },
   { name = "b", kind = "buffer", input = true },
   { name = "out", kind = "action", work = ["int"] },
 ]
-link = [{ from = "a", to = "out", propagate = true }]"#,
-    ),
-    (
-        "two ways into one block",
-        r#"
+link = [{ from = "a", to = "out", propagate = true }]
+case two ways into one block
 block = [
   { name = "a", kind = "buffer", input = true },
   { name = "b", kind = "transform", input = true, work = ["int"] },
@@ -219,11 +176,8 @@ block = [
 link = [
   { from = "a", to = "out" },
   { from = "b", to = "out", propagate = true },
-]"#,
-    ),
-    (
-        "a block that ends by another, with another way behind it",
-        r#"
+]
+case a block that ends by another, with another way behind it
 block = [
   { name = "a", kind = "buffer", input = true },
   { name = "b", kind = "buffer", input = true },
@@ -234,11 +188,8 @@ link = [
   { from = "a", to = "both", propagate = true },
   { from = "b", to = "both", propagate = true },
   { from = "a", to = "out", propagate = true },
-]"#,
-    ),
-    (
-        "many events",
-        r#"
+]
+case many events
 block = [
   { name = "a", kind = "transform_many", input = true, work = ["int", "upto"] },
   { name = "b", kind = "transform_many", input = true, work = ["int", "repeat 300"] },
@@ -248,45 +199,17 @@ block = [
 link = [
   { from = "a", to = "out", propagate = true },
   { from = "b", to = "last", propagate = true },
-]"#,
-    ),
-];
+]
+"#;
 
-/// What sifting comes to: the records that pass, and the lines of the others without their numbers and lines.
-#[derive(Drop)]
-struct Outcome {
-    good: Vec<u8>,
-    bad: Vec<u8>,
-}
-
-fn sifted(alloc: Global, network: &str, records: &[u8]) -> Result<Outcome, TextRefusal> {
-    let mut good = Vec::new(alloc);
-    let mut bad = Vec::new(alloc);
-    let network = format!(in alloc; "format = 1\n{network}\n")?;
-    let network = network.as_str().as_bytes();
-    sift(alloc, network, records, LIMIT, &mut good, &mut bad)?;
-    Ok(Outcome { good, bad })
-}
-
-/// The value of a record: a number, mostly.
-fn value_of(alloc: Global, number: u64) -> Result<String, Fail> {
-    let text = match number % 40 {
-        3 => format!(in alloc; "x{number}")?,
-        17 => format!(in alloc; "\"{number}\n\"")?,
-        29 => format!(in alloc; "9223372036854775808")?,
-        _ => format!(in alloc; "{number}")?,
-    };
-    Ok(text)
-}
-
-/// A record. Where the inputs come by turns the first is `a`; else all of `a` come first. Some records can't be read.
-fn record(alloc: Global, number: u64, by_turns: bool) -> Result<String, Fail> {
+/// A record, whose value is a number, mostly. Where the inputs come by turns the first is `a`; else all of `a` come first. Some
+/// records can't be read.
+fn record(rt: &(impl Abort + Print), alloc: Global, number: u64, by_turns: bool) -> String {
     let is_first = if by_turns {
         number % 2 == 0
     } else {
         number < COUNT / 2
     };
-    let value = value_of(alloc, number)?;
     let input = match (number % 64, is_first) {
         (50, _) => "c",
         (51, _) => "a,a",
@@ -294,70 +217,93 @@ fn record(alloc: Global, number: u64, by_turns: bool) -> Result<String, Fail> {
         (_, true) => "a",
         (_, false) => "b",
     };
-    Ok(format!(in alloc; "{input},{value}\n")?)
+    let record = match number % 40 {
+        3 => format!(in alloc; "{input},x{number}\n"),
+        17 => format!(in alloc; "{input},\"{number}\n\"\n"),
+        29 => format!(in alloc; "{input},9223372036854775808\n"),
+        _ => format!(in alloc; "{input},{number}\n"),
+    };
+    given(rt, "a record", record)
+}
+
+fn all_records(rt: &(impl Abort + Print), alloc: Global, by_turns: bool) -> Vec<u8> {
+    let mut text = Vec::new(alloc);
+    for number in 0..COUNT {
+        let record = record(rt, alloc, number, by_turns);
+        add(rt, &mut text, record.as_bytes());
+    }
+    text
+}
+
+/// Adds what comes of each record by itself.
+fn sift_each(
+    rt: &(impl Abort + Print),
+    alloc: Global,
+    network: &[u8],
+    by_turns: bool,
+    good: &mut Vec<u8>,
+    bad: &mut Vec<u8>,
+) {
+    for number in 0..COUNT {
+        // An empty line in front, so that a byte order mark stays one of the record's bytes.
+        let mut text = Vec::new(alloc);
+        add(rt, &mut text, b"\n");
+        let record = record(rt, alloc, number, by_turns);
+        add(rt, &mut text, record.as_bytes());
+        let sifted = sift(alloc, network, &text, LIMIT, good, bad);
+        given(rt, "a record alone", sifted);
+    }
 }
 
 /// What stands in each of these lines behind the record's number and line, in order.
-fn without_numbers(alloc: Global, lines: &[u8]) -> Result<String, Fail> {
-    let mut text = String::new(alloc);
-    for line in str::from_utf8(lines)?.lines() {
+fn without_numbers(rt: &(impl Abort + Print), alloc: Global, lines: &[u8]) -> Vec<u8> {
+    let mut text = Vec::new(alloc);
+    for line in given(rt, "lines", str::from_utf8(lines)).lines() {
         let (_, rest) = line.split_once(": ").unwrap_or(("", line));
-        text.push_str(rest)?;
-        text.push_str("\n")?;
+        add(rt, &mut text, rest.as_bytes());
+        add(rt, &mut text, b"\n");
     }
-    Ok(text)
+    text
 }
 
-/// What comes of each record of a text by itself, one behind another.
-fn each_alone(alloc: Global, network: &str, by_turns: bool) -> Result<Outcome, Fail> {
-    let mut good = Vec::new(alloc);
-    let mut bad = Vec::new(alloc);
-    for number in 0..COUNT {
-        // An empty line in front, so that a byte order mark stays one of the record's bytes.
-        let text = format!(in alloc; "\n{}", record(alloc, number, by_turns)?)?;
-        let Ok(alone) = sifted(alloc, network, text.as_str().as_bytes()) else {
-            return Ok(Outcome {
-                good: Vec::new(alloc),
-                bad: Vec::new(alloc),
-            });
-        };
-        good.extend_from_slice(&alone.good)?;
-        bad.extend_from_slice(&alone.bad)?;
-    }
-    Ok(Outcome { good, bad })
+/// Tests that of records which are sifted together comes what comes of each alone.
+fn sifts_both_ways(
+    rt: &(impl Abort + Print),
+    alloc: Global,
+    case: &str,
+    records: &[u8],
+    by_turns: bool,
+) {
+    let (name, blocks) = head_and_lines(case);
+    let network = given(rt, name, format!(in alloc; "format = 1\n{blocks}\n"));
+    let network = network.as_bytes();
+    let (mut good, mut bad) = (Vec::new(alloc), Vec::new(alloc));
+    let sifted = sift(alloc, network, records, LIMIT, &mut good, &mut bad);
+    given(rt, name, sifted);
+    let (mut alone, mut aside) = (Vec::new(alloc), Vec::new(alloc));
+    sift_each(rt, alloc, network, by_turns, &mut alone, &mut aside);
+    check(rt, name, !alone.is_empty());
+    check(rt, name, !aside.is_empty());
+    are_due(rt, name, &alone, &good);
+    let due = without_numbers(rt, alloc, &aside);
+    are_due(rt, name, &due, &without_numbers(rt, alloc, &bad));
 }
 
-fn all_records(alloc: Global, by_turns: bool) -> Result<String, Fail> {
-    let mut text = String::new(alloc);
-    for number in 0..COUNT {
-        text.push_str(record(alloc, number, by_turns)?.as_str())?;
+/// Tests that over each network.
+fn sift_all(rt: &(impl Abort + Print), alloc: Global, by_turns: bool) {
+    has_cases(rt, NETWORKS, 16);
+    let records = all_records(rt, alloc, by_turns);
+    for case in NETWORKS.split("\ncase ").skip(1) {
+        sifts_both_ways(rt, alloc, case, &records, by_turns);
     }
-    Ok(text)
-}
-
-/// Sifts the same records together and each alone, over each network.
-fn sift_both_ways(rt: &(impl Abort + Print), alloc: Global, by_turns: bool) -> Result<(), Fail> {
-    let records = all_records(alloc, by_turns)?;
-    for (name, network) in NETWORKS {
-        let Ok(whole) = sifted(alloc, network, records.as_str().as_bytes()) else {
-            panic!(rt; "{name} is refused");
-        };
-        let alone = each_alone(alloc, network, by_turns)?;
-        check(rt, name, !alone.good.is_empty() && !alone.bad.is_empty());
-        check(rt, name, whole.good.as_slice() == alone.good.as_slice());
-        let lines = without_numbers(alloc, &whole.bad)?;
-        let due = without_numbers(alloc, &alone.bad)?;
-        check(rt, name, lines.as_str() == due.as_str());
-    }
-    Ok(())
 }
 
 #[test]
-fn records_by_turns_are_as_each_alone(rt: HostRuntime) -> Result<(), Fail> {
-    sift_both_ways(&rt, rt.alloc(), true)
+fn records_by_turns_are_as_each_alone(rt: HostRuntime) {
+    sift_all(&rt, rt.alloc(), true);
 }
 
 #[test]
-fn records_of_one_input_after_the_other_are_as_each_alone(rt: HostRuntime) -> Result<(), Fail> {
-    sift_both_ways(&rt, rt.alloc(), false)
+fn records_of_one_input_after_the_other_are_as_each_alone(rt: HostRuntime) {
+    sift_all(&rt, rt.alloc(), false);
 }

@@ -1,45 +1,58 @@
 //! What is told of a text.
-use crate::check::{check, is_due};
+use crate::check::{add_words, check, given, is_due};
 use flow_explain::{Answer, Source, Style, Verdict, check_network, explain_network};
-use flow_fault_text::TextRefusal;
+use flow_fault_text::{TextFault, TextRefusal};
 use flow_places::Span;
 use flow_plan_text::read_plan;
-use std::alloc::{AllocError, Global};
+use std::alloc::Global;
 use std::process::Abort;
-use std::test::Fail;
 
 /// A text whose first line names the format, and whose others are these, between which ' ; ' stands.
-pub(crate) fn lines_of(alloc: Global, lines: &str) -> Result<String, AllocError> {
-    let mut text = String::from_str(alloc, "format = 1\n")?;
+pub(crate) fn lines_of(rt: &(impl Abort + Print), alloc: Global, lines: &str) -> String {
+    let mut text = given(rt, lines, String::from_str(alloc, "format = 1\n"));
     for line in lines.split(" ; ") {
-        text.push_str(line)?;
-        text.push_str("\n")?;
+        add_words(rt, &mut text, line);
+        add_words(rt, &mut text, "\n");
     }
-    Ok(text)
+    text
 }
 
 /// A text without the double angles in it, and what stood between them, or its start where there are none.
-pub(crate) fn unmarked(alloc: Global, marked: &str) -> Result<(String, Span), AllocError> {
+pub(crate) fn unmarked(rt: &(impl Abort + Print), alloc: Global, marked: &str) -> (String, Span) {
     let Some((before, rest)) = marked.split_once("<<") else {
-        return Ok((String::from_str(alloc, marked)?, Span::new(0, 0)));
+        let text = given(rt, marked, String::from_str(alloc, marked));
+        return (text, Span::new(0, 0));
     };
     let (inner, after) = rest.split_once(">>").unwrap_or((rest, ""));
-    let mut text = String::from_str(alloc, before)?;
-    text.push_str(inner)?;
+    let mut text = given(rt, marked, String::from_str(alloc, before));
+    add_words(rt, &mut text, inner);
     let span = Span::new(before.len(), text.len());
-    text.push_str(after)?;
-    Ok((text, span))
+    add_words(rt, &mut text, after);
+    (text, span)
 }
 
-/// The first flaw that is told of a text: its fault, as a run tells it, and where it stands. A text that is accepted has none.
-pub(crate) fn first_flaw(alloc: Global, text: &[u8]) -> Result<(String, Span), Fail> {
-    match explain_network(alloc, text)? {
+/// Tests that the first flaw that is told of a text has this fault, as a run tells it. It is where the flaw stands; a text that is
+/// accepted has none.
+pub(crate) fn flaw_in(
+    rt: &(impl Abort + Print),
+    alloc: Global,
+    row: &str,
+    text: &[u8],
+    line: &str,
+) -> Span {
+    match given(rt, row, explain_network(alloc, text)) {
         Answer::Refused(flaw, _) => {
-            let fault = flaw.fault;
-            Ok((format!(in alloc; "{fault}")?, flaw.span))
+            is_told(rt, alloc, row, flaw.fault, line);
+            flaw.span
         }
-        Answer::Accepted(_) => Ok((String::from_str(alloc, "accepted")?, Span::new(0, 0))),
+        Answer::Accepted(_) => panic!(rt; "accepted: {row}"),
     }
+}
+
+/// Tests that a fault is told so.
+fn is_told(rt: &(impl Abort + Print), alloc: Global, row: &str, fault: TextFault, line: &str) {
+    let told = given(rt, row, format!(in alloc; "{fault}"));
+    is_due(rt, row, line, told.as_str());
 }
 
 /// Tests that the first flaw of a text has this fault and stands there, and that a run refuses the text for it too.
@@ -50,31 +63,34 @@ pub(crate) fn is_flawed(
     text: &[u8],
     line: &str,
     span: Span,
-) -> Result<(), Fail> {
-    let (fault, found) = first_flaw(alloc, text)?;
-    is_due(rt, row, line, fault.as_str());
-    check(rt, row, found == span && is_refused(alloc, text, line)?);
-    Ok(())
-}
-
-/// Whether a run refuses a network for this fault.
-fn is_refused(alloc: Global, text: &[u8], line: &str) -> Result<bool, AllocError> {
+) {
+    check(rt, row, flaw_in(rt, alloc, row, text, line) == span);
     match read_plan(alloc, text) {
-        Err(TextRefusal::Fault(fault)) => {
-            let fault = format!(in alloc; "{fault}")?;
-            Ok(fault.as_str() == line)
-        }
-        Err(TextRefusal::Memory) => Err(AllocError),
-        Ok(_) => Ok(false),
+        Err(TextRefusal::Fault(fault)) => is_told(rt, alloc, row, fault, line),
+        Ok(_) | Err(TextRefusal::Memory) => panic!(rt; "not refused: {row}"),
     }
 }
 
 /// What is printed of a network with the name `net`, and the verdict.
-pub(crate) fn printed(alloc: Global, text: &[u8], style: Style) -> Result<(Verdict, String), Fail> {
+pub(crate) fn printed(
+    rt: &(impl Abort + Print),
+    alloc: Global,
+    text: &[u8],
+    style: Style,
+) -> (Verdict, String) {
     let mut out = Vec::new(alloc);
     let source = Source { name: "net", text };
-    let verdict = check_network(alloc, source, style, &mut out)?;
-    Ok((verdict, String::from_utf8_lossy(alloc, out.as_slice())?))
+    let verdict = given(
+        rt,
+        "a network",
+        check_network(alloc, source, style, &mut out),
+    );
+    (verdict, text_of(rt, alloc, &out))
+}
+
+/// What was printed, as a text.
+pub(crate) fn text_of(rt: &(impl Abort + Print), alloc: Global, out: &[u8]) -> String {
+    given(rt, "a text", String::from_utf8_lossy(alloc, out))
 }
 
 /// Tests that the lines of a text begin with the words of these lines, one after another, and that there are no others.

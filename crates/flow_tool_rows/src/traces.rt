@@ -1,10 +1,10 @@
 //! Where values were in a run.
-use crate::check::check;
+use crate::check::{are_due, given};
 use crate::reports;
 use flow_outcome::write_trace;
 use flow_reading::read_report;
 use std::alloc::Global;
-use std::test::Fail;
+use std::process::Abort;
 
 /// In each row the report of a run, a value, and where it was.
 const TRACES: &[(&str, &str, &str)] = &[
@@ -53,18 +53,17 @@ a took it at port 0: number 1, 3
     ),
 ];
 
-fn trace(alloc: Global, report: &str, value: &str) -> Result<String, Fail> {
-    let report = read_report(alloc, report.as_bytes())?;
+fn trace(rt: &(impl Abort + Print), alloc: Global, report: &str, value: &str) -> Vec<u8> {
+    let report = given(rt, value, read_report(alloc, report.as_bytes()));
     let mut trace: Vec<u8> = Vec::new(alloc);
-    write_trace(&report, value, &mut trace)?;
-    Ok(String::from_str(alloc, str::from_utf8(&trace)?)?)
+    given(rt, value, write_trace(&report, value, &mut trace));
+    trace
 }
 
 #[test]
-fn values_are_traced(rt: HostRuntime) -> Result<(), Fail> {
+fn values_are_traced(rt: HostRuntime) {
     for (report, value, due) in TRACES {
-        let trace = trace(rt.alloc(), report, value)?;
-        check(&rt, due, trace.as_str() == *due);
+        let trace = trace(&rt, rt.alloc(), report, value);
+        are_due(&rt, value, due.as_bytes(), &trace);
     }
-    Ok(())
 }

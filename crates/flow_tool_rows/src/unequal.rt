@@ -1,10 +1,10 @@
 //! Joins whose inputs get different numbers of records.
-use crate::check::{bytes_of, has_rows, two_cells};
-use crate::told::begins;
+use crate::check::{bytes_of, given, has_rows, two_cells};
+use crate::networks::planned;
+use crate::told::{begins, text_of};
 use flow_explain::{Source, Style, warn_unequal};
-use flow_plan_text::read_plan;
 use std::alloc::Global;
-use std::test::Fail;
+use std::process::Abort;
 
 /// In each row the name of a situation, what a block `t` is, the links of two inputs `a` and `b` and of that block into ports
 /// of a join `j`, the records as `bytes_of` reads them, and how the warning begins.
@@ -39,33 +39,39 @@ const BLOCKS: &str = r#"
     {name = "j", kind = "join", ports = 3},
 "#;
 
-/// What is told of these records for a network with these links.
-fn told_of(alloc: Global, block: &str, links: &str, records: &[u8]) -> Result<String, Fail> {
+/// The network of these blocks, that block and these links.
+fn network_of(rt: &(impl Abort + Print), alloc: Global, block: &str, links: &str) -> String {
     let network = format!(in alloc;
         "format = 1\nblock = [{BLOCKS} {{name = \"t\", {block}}}]\nlink = [{links}]\n"
-    )?;
-    let plan = read_plan(alloc, network.as_bytes()).ok().ok_or("no plan")?;
+    );
+    given(rt, links, network)
+}
+
+/// What is told of these records for a network.
+fn told_of(rt: &(impl Abort + Print), alloc: Global, network: &str, records: &[u8]) -> String {
+    let plan = planned(rt, alloc, network.as_bytes());
     let mut out = Vec::new(alloc);
     let source = Source {
         name: "rec",
         text: records,
     };
-    warn_unequal(alloc, &plan, source, Style::Short, &mut out)?;
-    Ok(String::from_utf8_lossy(alloc, out.as_slice())?)
+    let warned = warn_unequal(alloc, &plan, source, Style::Short, &mut out);
+    given(rt, network, warned);
+    text_of(rt, alloc, &out)
 }
 
 #[test]
-fn unequal_inputs_of_joins_are_told(rt: HostRuntime) -> Result<(), Fail> {
+fn unequal_inputs_of_joins_are_told(rt: HostRuntime) {
     has_rows(&rt, JOINS, 21);
     for row in JOINS.lines().skip(1) {
         let (_, others) = two_cells(&rt, row);
         let (block, others) = two_cells(&rt, others);
         let (links, others) = two_cells(&rt, others);
         let (words, wanted) = two_cells(&rt, others);
+        let network = network_of(&rt, rt.alloc(), block, links);
         let records = bytes_of(&rt, rt.alloc(), words);
-        let told = told_of(rt.alloc(), block, links, &records)?;
+        let told = told_of(&rt, rt.alloc(), network.as_str(), &records);
         let wanted = if wanted == "nothing" { "" } else { wanted };
         begins(&rt, row, told.as_str(), wanted);
     }
-    Ok(())
 }

@@ -2,7 +2,6 @@
 use crate::check::{check, has_cases, head_and_lines, two_cells};
 use crate::told::{begins, lines_of, printed};
 use flow_explain::{Style, Verdict};
-use std::test::Fail;
 
 /// Behind `case` stand the name of a situation and the lines of a network, between which ' ; ' stands, and below that how the
 /// warnings begin.
@@ -88,15 +87,14 @@ net:4:56: warning: step 2 of block 1 "out" faults at each value that comes to it
 "#;
 
 #[test]
-fn what_was_hardly_meant_is_told(rt: HostRuntime) -> Result<(), Fail> {
+fn what_was_hardly_meant_is_told(rt: HostRuntime) {
     has_cases(&rt, WARNED, 41);
     for case in WARNED.split("\ncase ").skip(1) {
         let (head, wanted) = head_and_lines(case);
         let (_, lines) = two_cells(&rt, head);
-        let text = lines_of(rt.alloc(), lines)?;
-        let (verdict, told) = printed(rt.alloc(), text.as_bytes(), Style::Short)?;
+        let text = lines_of(&rt, rt.alloc(), lines);
+        let (verdict, told) = printed(&rt, rt.alloc(), text.as_bytes(), Style::Short);
         check(&rt, case, verdict == Verdict::Accepted);
         begins(&rt, case, told.as_str(), wanted);
     }
-    Ok(())
 }
