@@ -1,7 +1,7 @@
 //! Results in each form.
-use crate::check::{are_due, check, given, is_due};
+use crate::check::{are_due, bytes_of, check, given, has_rows, is_due, two_cells};
 use crate::reports::IMPORT;
-use flow_outcome::{ResultsForm, results_by_action, write_results};
+use flow_outcome::{ActionResults, ResultsForm, results_by_action, write_results};
 use std::alloc::Global;
 use std::process::Abort;
 
@@ -109,6 +109,36 @@ fn results_of_blocks_by_name(rt: HostRuntime) {
     is_written(&rt, alloc, IMPORT, &["labels", "no\nbody"], lines, due);
     let due = "block orders is no action, so it has no results";
     is_written(&rt, alloc, IMPORT, &["labels", "orders"], lines, due);
+}
+
+/// In each row an action, and how its results begin with names of columns. `~` is a line feed.
+const BY_ACTION: &str = "
+a | block,value1,value2,value3~a,-9223372036854775808,,~
+c | block,value~c,9223372036854775807~
+";
+
+/// Tests that these are the results of the two actions, each with names of columns of its own.
+fn are_of_both(rt: &(impl Abort + Print), alloc: Global, all: &[ActionResults<'_>]) {
+    has_rows(rt, BY_ACTION, all.len());
+    for (row, action) in BY_ACTION.lines().skip(1).zip(all) {
+        let (name, front) = two_cells(rt, row);
+        check(rt, row, action.name == name);
+        check(
+            rt,
+            row,
+            action.text.starts_with(&bytes_of(rt, alloc, front)),
+        );
+    }
+}
+
+/// All actions where none is named, and those that are named, in the order of the report.
+#[test]
+fn results_of_each_action(rt: HostRuntime) {
+    let (alloc, values, form) = (rt.alloc(), VALUES.as_bytes(), ResultsForm::NamedCsv);
+    let all = results_by_action(alloc, values, &[], form);
+    are_of_both(&rt, alloc, &given(&rt, "all actions", all));
+    let both = results_by_action(alloc, values, &["c", "a"], form);
+    are_of_both(&rt, alloc, &given(&rt, "both by name", both));
 }
 
 /// Tests that there are no results of the block with this name.
