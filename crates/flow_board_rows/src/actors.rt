@@ -2,7 +2,7 @@
 ghost use Rattle.flow_board.specs.At.{AllAt};
 ghost use Rattle.flow_board.specs.Parts.{AllTasksOf};
 
-use crate::networks::{chain_parts, gathered, journal};
+use crate::networks::{CHAIN, NUMBERS, gathered, journal, scattered};
 use crate::told::{has_recorded, is_done};
 use flow_board::{Board, Parts, Task, TaskAt};
 use flow_poll::{Crew, TurnState};
@@ -78,7 +78,7 @@ fn tasks_at_their_board_end_and_are_gathered(rt: HostRuntime) {
         tasks,
         entries,
         exits,
-    } = chain_parts(&rt, alloc);
+    } = scattered(&rt, alloc, CHAIN, NUMBERS);
     let tasks = crew_ended(&rt, alloc, &board, tasks);
     let parts = Parts {
         board,

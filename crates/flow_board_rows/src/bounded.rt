@@ -4,15 +4,14 @@ ghost use Rattle.std.specs.Prelude.{◌≡◌};
 ghost use Rattle.flow_board.specs.Parts.{AllTasksOf, entry_board, exit_board, watched_board};
 
 use crate::networks::{BOUNDED, gathered, journal, watched};
-use crate::polls::{ready, wait};
+use crate::polls::{ready, send, send_later};
 use crate::ports::{entry_alone, exit_alone, look, only_entry, only_exit};
-use crate::rounds::turn_all;
+use crate::rounds::{ALL, turn};
 use crate::told::is_done;
 use flow_board::{Board, Entry, EntryAt, Exit, ExitAt, Parts, Task, Watch, WatchAt};
 use flow_link::{Ending, Outcome};
 use flow_poll::{
-    Completion, Delivery, OutputAvailable, Post, Receipt, Receive, SendAsync, SendFault,
-    SendRefusal, Sent,
+    Completion, Delivery, OutputAvailable, Post, Receipt, Receive, SendFault, SendRefusal, Sent,
 };
 use flow_value::{Steps, Value};
 use std::alloc::{AllocError, AllocGlobal, Global};
@@ -63,38 +62,22 @@ fn posts(
     rt: &(impl Abort + RandomSource + AllocGlobal),
     alloc: Global,
     board: &Board<Steps>,
-    tasks: Vec<Task<Steps>>,
+    tasks: &mut Vec<Task<Steps>>,
     entry: Entry<Steps>,
     number: i64,
     became: Became,
-) -> (Vec<Task<Steps>>, Entry<Steps>)
-    requires of { AllTasksOf board.now tasks.items }
+) -> Entry<Steps>
+    requires of { AllTasksOf board.now tasks.old.items }
     requires entry_of { entry_board entry ≡ board.now }
-    ensures of { AllTasksOf board.now result.0.items }
-    ensures entry_of { entry_board result.1 ≡ board.now }
+    ensures of { AllTasksOf board.now tasks.new.items }
+    ensures entry_of { entry_board result ≡ board.now }
 {
     let posting = Post::new(alloc, EntryAt::new(board, entry), Value::Int(number));
-    let (tasks, (port, answer)) = ready(rt, alloc, board, tasks, posting);
+    let (port, answer) = ready(rt, alloc, board, tasks, posting);
     if !is_so(answer, number, became) {
-        panic!(rt; "something else becomes of {number}");
+        panic!(rt; "something else becomes of a number");
     }
-    (tasks, port.into_entry())
-}
-
-/// Begins to send a number that waits for room.
-fn send_later(
-    rt: &(impl Abort + RandomSource + AllocGlobal),
-    alloc: Global,
-    board: &Board<Steps>,
-    entry: Entry<Steps>,
-    number: i64,
-) -> Entry<Steps>
-    requires of { entry_board entry ≡ board.now }
-    ensures of { entry_board result ≡ board.now }
-{
-    let mut sending = SendAsync::new(alloc, EntryAt::new(board, entry), Value::Int(number));
-    wait(rt, &mut sending);
-    sending.into_port().into_entry()
+    port.into_entry()
 }
 
 /// Receives: this number, or how the block ended.
@@ -102,21 +85,21 @@ fn receives(
     rt: &(impl Abort + RandomSource + AllocGlobal),
     alloc: Global,
     board: &Board<Steps>,
-    tasks: Vec<Task<Steps>>,
+    tasks: &mut Vec<Task<Steps>>,
     exit: Exit<Steps>,
     what: Result<i64, Outcome>,
-) -> (Vec<Task<Steps>>, Exit<Steps>)
-    requires of { AllTasksOf board.now tasks.items }
+) -> Exit<Steps>
+    requires of { AllTasksOf board.now tasks.old.items }
     requires exit_of { exit_board exit ≡ board.now }
-    ensures of { AllTasksOf board.now result.0.items }
-    ensures exit_of { exit_board result.1 ≡ board.now }
+    ensures of { AllTasksOf board.now tasks.new.items }
+    ensures exit_of { exit_board result ≡ board.now }
 {
     let receiving = Receive::new(alloc, ExitAt::new(board, exit));
-    let (tasks, (port, receipt)) = ready(rt, alloc, board, tasks, receiving);
+    let (port, receipt) = ready(rt, alloc, board, tasks, receiving);
     if received(rt, receipt) != what {
         panic!(rt; "something else comes");
     }
-    (tasks, port.into_exit())
+    port.into_exit()
 }
 
 /// There is output.
@@ -124,18 +107,18 @@ fn is_available(
     rt: &(impl Abort + RandomSource + AllocGlobal),
     alloc: Global,
     board: &Board<Steps>,
-    tasks: Vec<Task<Steps>>,
+    tasks: &mut Vec<Task<Steps>>,
     exit: Exit<Steps>,
-) -> (Vec<Task<Steps>>, Exit<Steps>)
-    requires of { AllTasksOf board.now tasks.items }
+) -> Exit<Steps>
+    requires of { AllTasksOf board.now tasks.old.items }
     requires exit_of { exit_board exit ≡ board.now }
-    ensures of { AllTasksOf board.now result.0.items }
-    ensures exit_of { exit_board result.1 ≡ board.now }
+    ensures of { AllTasksOf board.now tasks.new.items }
+    ensures exit_of { exit_board result ≡ board.now }
 {
     let watching = OutputAvailable::new(alloc, ExitAt::new(board, exit));
-    let (tasks, (port, told)) = ready(rt, alloc, board, tasks, watching);
+    let (port, told) = ready(rt, alloc, board, tasks, watching);
     assert!(rt; matches!(told, Ok(true)));
-    (tasks, port.into_exit())
+    port.into_exit()
 }
 
 /// The block is done.
@@ -143,46 +126,54 @@ fn completes(
     rt: &(impl Abort + RandomSource + AllocGlobal),
     alloc: Global,
     board: &Board<Steps>,
-    tasks: Vec<Task<Steps>>,
+    tasks: &mut Vec<Task<Steps>>,
     watch: Watch<Steps>,
-) -> Vec<Task<Steps>>
-    requires of { AllTasksOf board.now tasks.items }
+)
+    requires of { AllTasksOf board.now tasks.old.items }
     requires watch_of { watched_board watch ≡ board.now }
-    ensures of { AllTasksOf board.now result.items }
+    ensures of { AllTasksOf board.now tasks.new.items }
 {
     let waiting = Completion::new(alloc, WatchAt::new(board, watch));
-    let (tasks, (_port, how)) = ready(rt, alloc, board, tasks, waiting);
+    let (_port, how) = ready(rt, alloc, board, tasks, waiting);
     assert!(rt; how == Outcome::Done);
-    tasks
 }
 
-/// 1 finds room, and 2 does not until 1 is received.
+/// 1 finds room, and 2 does not until 1 is received. Then 4 does.
 fn goes_through(
     rt: &(impl Abort + RandomSource + AllocGlobal),
     alloc: Global,
     board: &Board<Steps>,
-    tasks: Vec<Task<Steps>>,
+    tasks: &mut Vec<Task<Steps>>,
     entry: Entry<Steps>,
     exit: Exit<Steps>,
-) -> (Vec<Task<Steps>>, Entry<Steps>, Exit<Steps>)
-    requires of { AllTasksOf board.now tasks.items }
+) -> (Entry<Steps>, Exit<Steps>)
+    requires of { AllTasksOf board.now tasks.old.items }
     requires entry_of { entry_board entry ≡ board.now }
     requires exit_of { exit_board exit ≡ board.now }
-    ensures of { AllTasksOf board.now result.0.items }
-    ensures entry_of { entry_board result.1 ≡ board.now }
-    ensures exit_of { exit_board result.2 ≡ board.now }
+    ensures of { AllTasksOf board.now tasks.new.items }
+    ensures entry_of { entry_board result.0 ≡ board.now }
+    ensures exit_of { exit_board result.1 ≡ board.now }
 {
-    let (tasks, entry) = posts(rt, alloc, board, tasks, entry, 1, Became::Accepted);
-    let (tasks, entry) = posts(rt, alloc, board, tasks, entry, 2, Became::Declined);
-    let entry = send_later(rt, alloc, board, entry, 2);
-    let (tasks, _) = turn_all(rt, alloc, board, tasks, 64, 10);
-    let (tasks, mut entry) = posts(rt, alloc, board, tasks, entry, 9, Became::Busy);
-    let (tasks, exit) = receives(rt, alloc, board, tasks, exit, Ok(1));
-    let (tasks, sent) = look(rt, alloc, board, tasks, &mut entry);
+    let entry = posts(rt, alloc, board, tasks, entry, 1, Became::Accepted);
+    let entry = posts(rt, alloc, board, tasks, entry, 2, Became::Declined);
+    let port = send_later(rt, alloc, EntryAt::new(board, entry), Value::Int(2));
+    turn(rt, alloc, board, tasks, ALL, 64, 10);
+    let mut entry = posts(rt, alloc, board, tasks, port.into_entry(), 9, Became::Busy);
+    let exit = receives(rt, alloc, board, tasks, exit, Ok(1));
+    let sent = look(rt, alloc, board, tasks, &mut entry);
     assert!(rt; matches!(sent, Sent::Accepted));
-    let (tasks, exit) = is_available(rt, alloc, board, tasks, exit);
-    let (tasks, exit) = receives(rt, alloc, board, tasks, exit, Ok(2));
-    (tasks, entry, exit)
+    let exit = is_available(rt, alloc, board, tasks, exit);
+    let exit = receives(rt, alloc, board, tasks, exit, Ok(2));
+    let port = send(
+        rt,
+        alloc,
+        board,
+        tasks,
+        EntryAt::new(board, entry),
+        Value::Int(4),
+    );
+    let exit = receives(rt, alloc, board, tasks, exit, Ok(4));
+    (port.into_entry(), exit)
 }
 
 /// The input ends with completion, and so the block does.
@@ -190,26 +181,26 @@ fn ends(
     rt: &(impl Abort + RandomSource + AllocGlobal),
     alloc: Global,
     board: &Board<Steps>,
-    tasks: Vec<Task<Steps>>,
+    tasks: &mut Vec<Task<Steps>>,
     mut entry: Entry<Steps>,
     exit: Exit<Steps>,
     mut watch: Watch<Steps>,
-) -> (Vec<Task<Steps>>, Entry<Steps>, Exit<Steps>)
-    requires of { AllTasksOf board.now tasks.items }
+) -> (Entry<Steps>, Exit<Steps>)
+    requires of { AllTasksOf board.now tasks.old.items }
     requires entry_of { entry_board entry ≡ board.now }
     requires exit_of { exit_board exit ≡ board.now }
     requires watch_of { watched_board watch ≡ board.now }
-    ensures of { AllTasksOf board.now result.0.items }
-    ensures entry_of { entry_board result.1 ≡ board.now }
-    ensures exit_of { exit_board result.2 ≡ board.now }
+    ensures of { AllTasksOf board.now tasks.new.items }
+    ensures entry_of { entry_board result.0 ≡ board.now }
+    ensures exit_of { exit_board result.1 ≡ board.now }
 {
     assert!(rt; watch.read(board).is_none());
     assert!(rt; entry.finish(board, Ending::Complete).is_ok());
-    let (tasks, mut entry) = posts(rt, alloc, board, tasks, entry, 3, Became::Permanently);
+    let mut entry = posts(rt, alloc, board, tasks, entry, 3, Became::Permanently);
     assert!(rt; entry.finish(board, Ending::Fault(7)).is_ok());
-    let tasks = completes(rt, alloc, board, tasks, watch);
-    let (tasks, exit) = receives(rt, alloc, board, tasks, exit, Err(Outcome::Done));
-    (tasks, entry, exit)
+    completes(rt, alloc, board, tasks, watch);
+    let exit = receives(rt, alloc, board, tasks, exit, Err(Outcome::Done));
+    (entry, exit)
 }
 
 #[test]
@@ -218,16 +209,26 @@ fn a_bounded_buffer_takes_what_it_has_room_for(rt: HostRuntime) {
     let (parts, watch) = watched(&rt, alloc, BOUNDED, "b?");
     let Parts {
         board,
-        tasks,
+        mut tasks,
         entries,
         exits,
     } = parts;
     let entry = only_entry(&rt, &board, entries);
     let exit = only_exit(&rt, &board, exits);
-    let (tasks, entry, exit) = goes_through(&rt, alloc, &board, tasks, entry, exit);
-    assert!(rt; matches!(entry.accepted(), [Value::Int(1), Value::Int(2)]));
-    let (tasks, entry, exit) = ends(&rt, alloc, &board, tasks, entry, exit, watch);
-    assert!(rt; matches!(exit.received(), [Value::Int(1), Value::Int(2)]));
+    let (entry, exit) = goes_through(&rt, alloc, &board, &mut tasks, entry, exit);
+    assert!(rt;
+        matches!(
+            entry.accepted(),
+            [Value::Int(1), Value::Int(2), Value::Int(4)]
+        )
+    );
+    let (entry, exit) = ends(&rt, alloc, &board, &mut tasks, entry, exit, watch);
+    assert!(rt;
+        matches!(
+            exit.received(),
+            [Value::Int(1), Value::Int(2), Value::Int(4)]
+        )
+    );
     let entries = entry_alone(&rt, alloc, &board, entry);
     let exits = exit_alone(&rt, alloc, &board, exit);
     let parts = Parts {
@@ -237,5 +238,5 @@ fn a_bounded_buffer_takes_what_it_has_room_for(rt: HostRuntime) {
         exits,
     };
     let net = gathered(&rt, alloc, parts);
-    is_done(&rt, journal(&rt, &net, "b"), &[1, 2], &[1, 2]);
+    is_done(&rt, journal(&rt, &net, "b"), &[1, 2, 4], &[1, 2, 4]);
 }

@@ -1,6 +1,6 @@
 //! A block that has two lanes: each is a task, and what is there when the parts are gathered is out in the network.
-use crate::networks::{again, journal, laned_parts, settle};
-use crate::rounds::{turned, turned_in_part};
+use crate::networks::{LANED, NUMBERS, again, journal, scattered, settle};
+use crate::rounds::{ALL, turned};
 use crate::told::{Told, has_recorded, is_told};
 use flow_poll::TurnState;
 
@@ -12,9 +12,9 @@ const LANES: usize = 2;
 #[test]
 fn jobs_go_through_lanes(rt: HostRuntime) {
     let alloc = rt.alloc();
-    let parts = laned_parts(&rt, alloc);
+    let parts = scattered(&rt, alloc, LANED, NUMBERS);
     assert!(rt; parts.tasks.len() == TASKS);
-    let (net, state) = turned(&rt, alloc, parts, 64, 100);
+    let (net, state) = turned(&rt, alloc, parts, ALL, 64, 100);
     assert!(rt; state == TurnState::Ended);
     has_recorded(&rt, &net);
 }
@@ -23,8 +23,8 @@ fn jobs_go_through_lanes(rt: HostRuntime) {
 #[test]
 fn jobs_in_lanes_are_out_in_the_gathered_network(rt: HostRuntime) {
     let alloc = rt.alloc();
-    let parts = laned_parts(&rt, alloc);
-    let mut net = turned_in_part(&rt, alloc, parts, TASKS - LANES, 20);
+    let parts = scattered(&rt, alloc, LANED, NUMBERS);
+    let (mut net, _) = turned(&rt, alloc, parts, TASKS - LANES, 64, 20);
     let taken = [Told::Took(1), Told::Took(2), Told::Took(3), Told::Complete];
     is_told(&rt, journal(&rt, &net, "double"), &taken);
     settle(&rt, alloc, &mut net);
@@ -35,10 +35,10 @@ fn jobs_in_lanes_are_out_in_the_gathered_network(rt: HostRuntime) {
 #[test]
 fn jobs_that_are_out_are_done_once_more(rt: HostRuntime) {
     let alloc = rt.alloc();
-    let parts = laned_parts(&rt, alloc);
-    let net = turned_in_part(&rt, alloc, parts, TASKS - LANES, 20);
+    let parts = scattered(&rt, alloc, LANED, NUMBERS);
+    let (net, _) = turned(&rt, alloc, parts, TASKS - LANES, 64, 20);
     let parts = again(&rt, alloc, net);
-    let (net, state) = turned(&rt, alloc, parts, 64, 100);
+    let (net, state) = turned(&rt, alloc, parts, ALL, 64, 100);
     assert!(rt; state == TurnState::Ended);
     has_recorded(&rt, &net);
 }

@@ -2,9 +2,12 @@
 ghost use Rattle.std.specs.Prelude.{◌≡◌};
 ghost use Rattle.flow_board.specs.Parts.{AllEntriesOf, AllExitsOf, AllTasksOf};
 
-use crate::networks::{gathered, parts_of_each_sort, settle};
-use crate::rounds::turn_all;
+use crate::networks::{EACH_POSTED, EACH_SORT, READS, TEXTS, gathered, journal, scattered, settle};
+use crate::offers::has_read;
+use crate::rounds::{ALL, turn};
 use flow_board::{Board, Entry, Exit, GatherFault, Parts, Task, gather};
+use flow_link::Mark;
+use flow_net::Net;
 use flow_value::Steps;
 use std::alloc::Global;
 use std::process::Abort;
@@ -39,27 +42,32 @@ fn refused(rt: &impl Abort, alloc: Global, parts: Parts<Steps>, number: usize) -
     parts
 }
 
-/// Keeps back the task at this place, if there is one.
+/// Takes the task at this place out, if there is one, and gives it alone.
 fn keep_task(
     rt: &impl Abort,
+    alloc: Global,
     board: &Board<Steps>,
     tasks: &mut Vec<Task<Steps>>,
-    kept: &mut Vec<Task<Steps>>,
     place: usize,
-)
+) -> Vec<Task<Steps>>
     requires of { AllTasksOf board.now tasks.old.items }
-    requires kept_of { AllTasksOf board.now kept.old.items }
     ensures of { AllTasksOf board.now tasks.new.items }
-    ensures kept_of { AllTasksOf board.now kept.new.items }
+    ensures kept_of { AllTasksOf board.now result.items }
 {
     let _ = board;
     if place >= tasks.len() {
-        return;
+        return Vec::new(alloc);
     }
-    let task = tasks.remove(place);
-    let Ok(()) = kept.push(task) else {
+    let Ok(mut kept) = tasks.split_off(place) else {
         panic!(rt; "out of memory");
     };
+    let Ok(mut others) = kept.split_off(1) else {
+        panic!(rt; "out of memory");
+    };
+    let Ok(()) = tasks.append(&mut others) else {
+        panic!(rt; "out of memory");
+    };
+    kept
 }
 
 /// The entries that are not kept back, and those that are: all of them or none.
@@ -100,21 +108,28 @@ fn keep_exits(
     }
 }
 
-/// Asserts that parts without these two, or without the one where they are the same, are not gathered, since the first is missing, and that
-/// they are once those are back. The parts are taken in the middle of a run.
-fn are_missing(rt: &impl Abort, alloc: Global, first: usize, second: usize) {
+/// Asserts that parts without these two, or without the one where they are the same, are not gathered, since the first is missing. Gathers
+/// them once those are back.
+fn are_missing(
+    rt: &impl Abort,
+    alloc: Global,
+    parts: Parts<Steps>,
+    first: usize,
+    second: usize,
+) -> Net<Steps>
+    requires tasks_of { AllTasksOf parts.board parts.tasks.items }
+    requires entries_of { AllEntriesOf parts.board parts.entries.items }
+    requires exits_of { AllExitsOf parts.board parts.exits.items }
+{
     let Parts {
         board,
-        tasks,
+        mut tasks,
         entries,
         exits,
-    } = parts_of_each_sort(rt, alloc);
-    assert!(rt; tasks.len() == TASKS && entries.len() == 1 && exits.len() == 1);
-    let (mut tasks, _) = turn_all(rt, alloc, &board, tasks, 1, 8);
-    let mut kept_tasks = Vec::new(alloc);
-    keep_task(rt, &board, &mut tasks, &mut kept_tasks, second);
+    } = parts;
+    let mut later = keep_task(rt, alloc, &board, &mut tasks, second);
     let other = if first == second { PARTS } else { first };
-    keep_task(rt, &board, &mut tasks, &mut kept_tasks, other);
+    let mut sooner = keep_task(rt, alloc, &board, &mut tasks, other);
     let is_entry = first == ENTRY || second == ENTRY;
     let (entries, mut kept_entries) = keep_entries(alloc, &board, entries, is_entry);
     let (exits, mut kept_exits) = keep_exits(alloc, &board, exits, second == EXIT);
@@ -125,7 +140,10 @@ fn are_missing(rt: &impl Abort, alloc: Global, first: usize, second: usize) {
         exits,
     };
     let mut parts = refused(rt, alloc, parts, first);
-    let Ok(()) = parts.tasks.append(&mut kept_tasks) else {
+    let Ok(()) = parts.tasks.append(&mut later) else {
+        panic!(rt; "out of memory");
+    };
+    let Ok(()) = parts.tasks.append(&mut sooner) else {
         panic!(rt; "out of memory");
     };
     let Ok(()) = parts.entries.append(&mut kept_entries) else {
@@ -134,7 +152,15 @@ fn are_missing(rt: &impl Abort, alloc: Global, first: usize, second: usize) {
     let Ok(()) = parts.exits.append(&mut kept_exits) else {
         panic!(rt; "out of memory");
     };
-    let mut net = gathered(rt, alloc, parts);
+    gathered(rt, alloc, parts)
+}
+
+/// Asserts so in the middle of a run whose parts are of each sort.
+fn are_missing_midway(rt: &impl Abort, alloc: Global, first: usize, second: usize) {
+    let mut parts = scattered(rt, alloc, EACH_SORT, EACH_POSTED);
+    assert!(rt; parts.tasks.len() == TASKS && parts.entries.len() == 1 && parts.exits.len() == 1);
+    turn(rt, alloc, &parts.board, &mut parts.tasks, ALL, 1, 8);
+    let mut net = are_missing(rt, alloc, parts, first, second);
     settle(rt, alloc, &mut net);
     assert!(rt; net.plan().block_count() == 3);
     let (left, more) = net.left(2);
@@ -146,7 +172,21 @@ fn parts_that_are_kept_back_are_missing(rt: HostRuntime) {
     for pair in 0..PARTS * PARTS {
         let (first, second) = (pair / PARTS, pair % PARTS);
         if first <= second {
-            are_missing(&rt, rt.alloc(), first, second);
+            are_missing_midway(&rt, rt.alloc(), first, second);
         }
+    }
+}
+
+// Nothing has happened yet in this network, and it has tasks alone.
+#[test]
+fn the_second_task_is_missing(rt: HostRuntime) {
+    let alloc = rt.alloc();
+    let parts = scattered(&rt, alloc, READS, TEXTS);
+    assert!(rt; parts.tasks.len() == 4 && parts.entries.is_empty() && parts.exits.is_empty());
+    let mut net = are_missing(&rt, alloc, parts, 1, 1);
+    settle(&rt, alloc, &mut net);
+    has_read(&rt, &net);
+    for name in ["in", "t", "out"] {
+        assert!(rt; matches!(journal(&rt, &net, name).last(), Some(Mark::Done)));
     }
 }

@@ -11,28 +11,35 @@ use std::alloc::Global;
 use std::process::Abort;
 
 /// A buffer, a transform that doubles numbers, and an action that records them.
-const CHAIN: &str =
+pub(crate) const CHAIN: &str =
     "in* buffer, double transform(mul 2), out action(id), in => double, double => out";
 
 /// The chain whose transform has two lanes.
-const LANED: &str =
+pub(crate) const LANED: &str =
     "in* buffer, double transform(mul 2) lanes 2, out action(id), in => double, double => out";
 
 /// What is posted to the chain.
-const NUMBERS: &str = "in=1 in=2 in=3";
+pub(crate) const NUMBERS: &str = "in=1 in=2 in=3";
 
 /// A buffer, a transform that reads numbers, and an action that records them.
-const READS: &str = "in* buffer, t transform(int), out action(), in => t, t => out";
+pub(crate) const READS: &str = "in* buffer, t transform(int), out action(), in => t, t => out";
+
+/// What is posted to it.
+pub(crate) const TEXTS: &str = "in,1 in,2 in,3";
 
 /// A buffer that leads out of the network.
-const BUFFER: &str = "b* buffer output true";
+pub(crate) const BUFFER: &str = "b* buffer output true";
 
 /// A buffer with room for one message, which leads out of the network.
 pub(crate) const BOUNDED: &str = "b* buffer capacity 1 output true";
 
-/// Two buffers, of which one stays open, and a transform with two lanes whose results lead out of the network.
-const EACH_SORT: &str =
+/// Two buffers, of which one stays open, and a transform with two lanes whose results lead out of the network: the tasks of three blocks, an
+/// input and two lanes, an entry, and an exit, with these numbers in this order.
+pub(crate) const EACH_SORT: &str =
     "a* buffer, b* buffer, t transform(int) lanes 2 output true, a => t, b => t";
+
+/// What is posted to it. The input of its second buffer stays open.
+pub(crate) const EACH_POSTED: &str = "a,1 a,2 b?";
 
 /// A block that takes one message.
 pub(crate) const ONCE: &str = "b* write_once";
@@ -69,68 +76,18 @@ pub(crate) fn watched(
 }
 
 /// The parts of the network that is drawn so, with these records.
-fn scattered(rt: &impl Abort, alloc: Global, network: &str, records: &str) -> Parts<Steps>
+pub(crate) fn scattered(
+    rt: &impl Abort,
+    alloc: Global,
+    network: &str,
+    records: &str,
+) -> Parts<Steps>
     ensures tasks_of { AllTasksOf result.board result.tasks.items }
     ensures entries_of { AllEntriesOf result.board result.entries.items }
     ensures exits_of { AllExitsOf result.board result.exits.items }
 {
     let (parts, _) = watched(rt, alloc, network, records);
     parts
-}
-
-/// The parts of the chain, and a watch of its first block.
-pub(crate) fn chain_watched(rt: &impl Abort, alloc: Global) -> (Parts<Steps>, Watch<Steps>)
-    ensures tasks_of { AllTasksOf result.0.board result.0.tasks.items }
-    ensures entries_of { AllEntriesOf result.0.board result.0.entries.items }
-    ensures exits_of { AllExitsOf result.0.board result.0.exits.items }
-    ensures watch_of { watched_board result.1 ≡ result.0.board }
-{
-    watched(rt, alloc, CHAIN, NUMBERS)
-}
-
-/// The parts of the chain.
-pub(crate) fn chain_parts(rt: &impl Abort, alloc: Global) -> Parts<Steps>
-    ensures tasks_of { AllTasksOf result.board result.tasks.items }
-    ensures entries_of { AllEntriesOf result.board result.entries.items }
-    ensures exits_of { AllExitsOf result.board result.exits.items }
-{
-    scattered(rt, alloc, CHAIN, NUMBERS)
-}
-
-/// The parts of the chain whose transform has two lanes.
-pub(crate) fn laned_parts(rt: &impl Abort, alloc: Global) -> Parts<Steps>
-    ensures tasks_of { AllTasksOf result.board result.tasks.items }
-    ensures entries_of { AllEntriesOf result.board result.entries.items }
-    ensures exits_of { AllExitsOf result.board result.exits.items }
-{
-    scattered(rt, alloc, LANED, NUMBERS)
-}
-
-/// The parts of the network that reads three numbers.
-pub(crate) fn parse_parts(rt: &impl Abort, alloc: Global) -> Parts<Steps>
-    ensures tasks_of { AllTasksOf result.board result.tasks.items }
-    ensures entries_of { AllEntriesOf result.board result.entries.items }
-    ensures exits_of { AllExitsOf result.board result.exits.items }
-{
-    scattered(rt, alloc, READS, "in,1 in,2 in,3")
-}
-
-/// The parts of the buffer, with these records.
-pub(crate) fn buffer_parts(rt: &impl Abort, alloc: Global, records: &str) -> Parts<Steps>
-    ensures tasks_of { AllTasksOf result.board result.tasks.items }
-    ensures entries_of { AllEntriesOf result.board result.entries.items }
-    ensures exits_of { AllExitsOf result.board result.exits.items }
-{
-    scattered(rt, alloc, BUFFER, records)
-}
-
-/// Parts of each sort: the tasks of three blocks, an input and two lanes, an entry, and an exit, with these numbers in this order.
-pub(crate) fn parts_of_each_sort(rt: &impl Abort, alloc: Global) -> Parts<Steps>
-    ensures tasks_of { AllTasksOf result.board result.tasks.items }
-    ensures entries_of { AllEntriesOf result.board result.entries.items }
-    ensures exits_of { AllExitsOf result.board result.exits.items }
-{
-    scattered(rt, alloc, EACH_SORT, "a,1 a,2 b?")
 }
 
 /// The parts of a network, scattered once more.

@@ -1,7 +1,6 @@
 //! What stands on a link while tasks have only offered and wanted.
-use crate::networks::{gathered, journal, parse_parts, settle};
-use crate::rounds::{turn_all, turn_first};
-use flow_board::Parts;
+use crate::networks::{READS, TEXTS, gathered, journal, scattered, settle};
+use crate::rounds::{ALL, turn};
 use flow_front::record_of;
 use flow_net::Net;
 use flow_value::{Steps, Value};
@@ -19,7 +18,7 @@ fn has_no_mark(rt: &impl Abort, net: &Net<Steps>) {
 }
 
 /// Asserts that the numbers 1, 2 and 3 are recorded.
-fn has_read(rt: &impl Abort, net: &Net<Steps>) {
+pub(crate) fn has_read(rt: &impl Abort, net: &Net<Steps>) {
     let Some(recorded) = record_of(net, "out") else {
         panic!(rt; "no block");
     };
@@ -32,26 +31,12 @@ fn has_read(rt: &impl Abort, net: &Net<Steps>) {
 #[test]
 fn an_offer_is_wanted(rt: HostRuntime) {
     let alloc = rt.alloc();
-    let Parts {
-        board,
-        tasks,
-        entries,
-        exits,
-    } = parse_parts(&rt, alloc);
-    assert!(rt; board.peek(3).is_none());
-    let (tasks, _) = turn_all(&rt, alloc, &board, tasks, 1, 1);
-    let tasks = turn_first(&rt, alloc, &board, tasks, 1, 1);
-    assert!(rt; board.peek(2) == Some(WANTED));
-    let mut net = gathered(
-        &rt,
-        alloc,
-        Parts {
-            board,
-            tasks,
-            entries,
-            exits,
-        },
-    );
+    let mut parts = scattered(&rt, alloc, READS, TEXTS);
+    assert!(rt; parts.board.peek(3).is_none());
+    turn(&rt, alloc, &parts.board, &mut parts.tasks, ALL, 1, 1);
+    turn(&rt, alloc, &parts.board, &mut parts.tasks, 1, 1, 1);
+    assert!(rt; parts.board.peek(2) == Some(WANTED));
+    let mut net = gathered(&rt, alloc, parts);
     has_no_mark(&rt, &net);
     settle(&rt, alloc, &mut net);
     has_read(&rt, &net);

@@ -2,9 +2,10 @@
 ghost use Rattle.futures.specs.Poll.{IfReady, OnPending};
 ghost use Rattle.flow_board.specs.Parts.{AllTasksOf};
 
-use crate::rounds::turn_all;
+use crate::rounds::{ALL, turn};
 use flow_board::{Board, Task};
-use flow_value::Steps;
+use flow_poll::{Delivery, OutputAvailable, Receive, ReceivePort, SendAsync, SendPort};
+use flow_value::{Steps, Value};
 use futures::Future;
 use futures::task::{Doorbell, Poll, Solo};
 use std::alloc::{AllocGlobal, Global};
@@ -28,7 +29,7 @@ fn poll<F: Future, R: Abort + RandomSource + AllocGlobal>(rt: &R, future: &mut F
 }
 
 /// Polls a future that is pending then.
-pub(crate) fn wait<F: Future, R: Abort + RandomSource + AllocGlobal>(rt: &R, future: &mut F)
+fn wait<F: Future, R: Abort + RandomSource + AllocGlobal>(rt: &R, future: &mut F)
 where
     F::Output: Drop,
     requires { F.can_poll future.old }
@@ -45,21 +46,64 @@ pub(crate) fn ready<F: Future, R: Abort + RandomSource + AllocGlobal>(
     rt: &R,
     alloc: Global,
     board: &Board<Steps>,
-    tasks: Vec<Task<Steps>>,
+    tasks: &mut Vec<Task<Steps>>,
     mut future: F,
-) -> (Vec<Task<Steps>>, F::Output)
-    requires of { AllTasksOf board.now tasks.items }
+) -> F::Output
+    requires of { AllTasksOf board.now tasks.old.items }
     requires can { F.can_poll future }
-    ensures of { AllTasksOf board.now result.0.items }
-    ensures gives { F.gives future result.1 }
+    ensures of { AllTasksOf board.now tasks.new.items }
+    ensures gives { F.gives future result }
 {
-    let mut tasks = tasks;
     for _ in 0..10 {
         if let Poll::Ready(output) = poll(rt, &mut future) {
-            return (tasks, output);
+            return output;
         }
-        let (turned, _) = turn_all(rt, alloc, board, tasks, 64, 10);
-        tasks = turned;
+        turn(rt, alloc, board, tasks, ALL, 64, 10);
     }
     panic!(rt; "it waits too long");
+}
+
+/// A way in at which a value was sent and taken.
+pub(crate) fn send<P: SendPort, R: Abort + RandomSource + AllocGlobal>(
+    rt: &R,
+    alloc: Global,
+    board: &Board<Steps>,
+    tasks: &mut Vec<Task<Steps>>,
+    port: P,
+    value: Value,
+) -> P
+    requires of { AllTasksOf board.now tasks.old.items }
+    ensures of { AllTasksOf board.now tasks.new.items }
+    ensures goes_on { P.goes_on port result }
+{
+    let sending = SendAsync::new(alloc, port, value);
+    let (port, answer) = ready(rt, alloc, board, tasks, sending);
+    assert!(rt; matches!(answer, Ok(Delivery::Accepted)));
+    port
+}
+
+/// A way in at which a value is sent that is not taken yet: its future is let go of once it waits.
+pub(crate) fn send_later<P: SendPort, R: Abort + RandomSource + AllocGlobal>(
+    rt: &R,
+    alloc: Global,
+    port: P,
+    value: Value,
+) -> P
+    ensures { P.goes_on port result }
+{
+    let mut sending = SendAsync::new(alloc, port, value);
+    wait(rt, &mut sending);
+    sending.into_port()
+}
+
+/// Nothing is to be received at a way out, nor is there output, as its futures tell by waiting.
+pub(crate) fn gives_nothing<P: ReceivePort, R: Abort + RandomSource + AllocGlobal>(
+    rt: &R,
+    alloc: Global,
+    port: P,
+) {
+    let mut receiving = Receive::new(alloc, port);
+    wait(rt, &mut receiving);
+    let mut watching = OutputAvailable::new(alloc, receiving.into_port());
+    wait(rt, &mut watching);
 }

@@ -2,10 +2,10 @@
 ghost use Rattle.std.specs.Prelude.{◌≡◌};
 ghost use Rattle.flow_board.specs.Parts.{AllEntriesOf, AllExitsOf, AllTasksOf, entry_board, exit_board};
 
-use crate::rounds::turn_all;
+use crate::rounds::{ALL, turn};
 use flow_board::{Board, Entry, Exit, Task};
 use flow_poll::{Received, Sent};
-use flow_value::Steps;
+use flow_value::{Steps, Value};
 use std::alloc::Global;
 use std::process::Abort;
 
@@ -82,24 +82,46 @@ pub(crate) fn look(
     rt: &impl Abort,
     alloc: Global,
     board: &Board<Steps>,
-    tasks: Vec<Task<Steps>>,
+    tasks: &mut Vec<Task<Steps>>,
     entry: &mut Entry<Steps>,
-) -> (Vec<Task<Steps>>, Sent)
-    requires of { AllTasksOf board.now tasks.items }
+) -> Sent
+    requires of { AllTasksOf board.now tasks.old.items }
     requires entry_of { entry_board entry.old ≡ board.now }
-    ensures of { AllTasksOf board.now result.0.items }
+    ensures of { AllTasksOf board.now tasks.new.items }
     ensures entry_of { entry_board entry.new ≡ entry_board entry.old }
 {
-    let mut tasks = tasks;
     for _ in 0..10 {
         let sent = entry.look(board);
         if !matches!(sent, Sent::Waiting) {
-            return (tasks, sent);
+            return sent;
         }
-        let (turned, _) = turn_all(rt, alloc, board, tasks, 64, 10);
-        tasks = turned;
+        turn(rt, alloc, board, tasks, ALL, 64, 10);
     }
-    (tasks, Sent::Waiting)
+    Sent::Waiting
+}
+
+/// Begins to send a value, which may be put off, or to post it, and looks what becomes of it.
+pub(crate) fn became(
+    rt: &impl Abort,
+    alloc: Global,
+    board: &Board<Steps>,
+    tasks: &mut Vec<Task<Steps>>,
+    entry: &mut Entry<Steps>,
+    value: Value,
+    may_wait: bool,
+) -> Sent
+    requires of { AllTasksOf board.now tasks.old.items }
+    requires entry_of { entry_board entry.old ≡ board.now }
+    ensures of { AllTasksOf board.now tasks.new.items }
+    ensures entry_of { entry_board entry.new ≡ entry_board entry.old }
+{
+    let begun = if may_wait {
+        entry.begin_send(alloc, board, value)
+    } else {
+        entry.begin_post(alloc, board, value)
+    };
+    assert!(rt; begun.is_ok());
+    look(rt, alloc, board, tasks, entry)
 }
 
 /// Receives at an exit, and has the tasks turned until something has come, for at most ten rounds.
@@ -107,24 +129,22 @@ pub(crate) fn receive(
     rt: &impl Abort,
     alloc: Global,
     board: &Board<Steps>,
-    tasks: Vec<Task<Steps>>,
+    tasks: &mut Vec<Task<Steps>>,
     exit: &mut Exit<Steps>,
-) -> (Vec<Task<Steps>>, Received)
-    requires of { AllTasksOf board.now tasks.items }
+) -> Received
+    requires of { AllTasksOf board.now tasks.old.items }
     requires exit_of { exit_board exit.old ≡ board.now }
-    ensures of { AllTasksOf board.now result.0.items }
+    ensures of { AllTasksOf board.now tasks.new.items }
     ensures exit_of { exit_board exit.new ≡ exit_board exit.old }
 {
-    let mut tasks = tasks;
     for _ in 0..10 {
         let Ok(received) = exit.try_receive(alloc, board) else {
             panic!(rt; "out of memory");
         };
         if !matches!(received, Received::Waiting) {
-            return (tasks, received);
+            return received;
         }
-        let (turned, _) = turn_all(rt, alloc, board, tasks, 64, 10);
-        tasks = turned;
+        turn(rt, alloc, board, tasks, ALL, 64, 10);
     }
-    (tasks, Received::Waiting)
+    Received::Waiting
 }

@@ -1,8 +1,8 @@
 //! A network is scattered, turned and gathered.
-use crate::networks::{buffer_parts, chain_parts, gathered, journal, settle};
-use crate::rounds::{turn_all, turned};
+use crate::networks::{BUFFER, CHAIN, NUMBERS, gathered, journal, scattered, settle};
+use crate::rounds::{ALL, turn, turned};
 use crate::told::{Told, all_told, begins, has_recorded, is_done, is_told};
-use flow_board::{Parts, Task};
+use flow_board::Task;
 use flow_link::Mark;
 use flow_poll::TurnState;
 use flow_value::Steps;
@@ -36,22 +36,10 @@ fn are_done(rt: &impl Abort, tasks: &Vec<Task<Steps>>) {
 #[test]
 fn turned_tasks_end_and_are_gathered(rt: HostRuntime) {
     let alloc = rt.alloc();
-    let parts = chain_parts(&rt, alloc);
-    let Parts {
-        board,
-        tasks,
-        entries,
-        exits,
-    } = parts;
-    let (tasks, state) = turn_all(&rt, alloc, &board, tasks, 64, 100);
+    let mut parts = scattered(&rt, alloc, CHAIN, NUMBERS);
+    let state = turn(&rt, alloc, &parts.board, &mut parts.tasks, ALL, 64, 100);
     assert!(rt; state == TurnState::Ended);
-    are_done(&rt, &tasks);
-    let parts = Parts {
-        board,
-        tasks,
-        entries,
-        exits,
-    };
+    are_done(&rt, &parts.tasks);
     let net = gathered(&rt, alloc, parts);
     is_done(&rt, journal(&rt, &net, "double"), &[1, 2, 3], &[2, 4, 6]);
     has_recorded(&rt, &net);
@@ -60,7 +48,14 @@ fn turned_tasks_end_and_are_gathered(rt: HostRuntime) {
 /// Asserts that a chain that is gathered after so many rounds of one event for each task, where its buffer has begun or not, and
 /// its action is not done, goes on to the same end.
 fn goes_on(rt: &impl Abort, alloc: Global, rounds: usize, has_begun: bool) {
-    let (mut net, _) = turned(rt, alloc, chain_parts(rt, alloc), 1, rounds);
+    let (mut net, _) = turned(
+        rt,
+        alloc,
+        scattered(rt, alloc, CHAIN, NUMBERS),
+        ALL,
+        1,
+        rounds,
+    );
     let first = all_told(rt, alloc, journal(rt, &net, "in"));
     let second = all_told(rt, alloc, journal(rt, &net, "double"));
     let third = all_told(rt, alloc, journal(rt, &net, "out"));
@@ -87,7 +82,7 @@ fn turns_may_stop_anywhere(rt: HostRuntime) {
 #[test]
 fn an_open_input_is_an_entry(rt: HostRuntime) {
     let alloc = rt.alloc();
-    let parts = buffer_parts(&rt, alloc, "b?");
+    let parts = scattered(&rt, alloc, BUFFER, "b?");
     assert!(rt; parts.tasks.len() == 1);
     assert!(rt; parts.entries.len() == 1);
     assert!(rt; parts.exits.len() == 1);

@@ -2,9 +2,9 @@
 ghost use Rattle.std.specs.Prelude.{◌≡◌};
 ghost use Rattle.flow_board.specs.Parts.{watched_board};
 
-use crate::networks::{chain_watched, gathered};
-use crate::rounds::turn_all;
-use flow_board::{Board, Parts, Watch, WatchAt, watches_agree};
+use crate::networks::{CHAIN, NUMBERS, gathered, watched};
+use crate::rounds::{ALL, turn};
+use flow_board::{Board, Watch, WatchAt, watches_agree};
 use flow_link::Outcome;
 use flow_poll::{Completion, TurnState};
 use flow_value::Steps;
@@ -39,23 +39,11 @@ fn knows_done(
 #[test]
 fn a_watch_learns_how_its_block_has_ended(rt: HostRuntime) {
     let alloc = rt.alloc();
-    let (parts, mut watch) = chain_watched(&rt, alloc);
-    let Parts {
-        board,
-        tasks,
-        entries,
-        exits,
-    } = parts;
-    let (tasks, _) = turn_all(&rt, alloc, &board, tasks, 64, 1);
-    assert!(rt; watch.read(&board).is_none());
-    let (tasks, state) = turn_all(&rt, alloc, &board, tasks, 64, 100);
+    let (mut parts, mut watch) = watched(&rt, alloc, CHAIN, NUMBERS);
+    turn(&rt, alloc, &parts.board, &mut parts.tasks, ALL, 64, 1);
+    assert!(rt; watch.read(&parts.board).is_none());
+    let state = turn(&rt, alloc, &parts.board, &mut parts.tasks, ALL, 64, 100);
     assert!(rt; state == TurnState::Ended);
-    knows_done(&rt, alloc, &board, watch);
-    let parts = Parts {
-        board,
-        tasks,
-        entries,
-        exits,
-    };
+    knows_done(&rt, alloc, &parts.board, watch);
     drop(gathered(&rt, alloc, parts));
 }
