@@ -9,7 +9,7 @@ from accept.examples import text_of
 from accept.library import PROGRAMS, SECONDS, set_library, what_lacks_for
 from accept.shell import run
 
-PAGE = "docs/library.md"
+PAGE = "examples/README.md"
 
 # Where an installed package has it, with its header and the programs that call it.
 LIBRARY = "usr/lib/x86_64-linux-gnu"
