@@ -1,4 +1,4 @@
-"""The rows of docs/worked-examples.md: their networks, records and reports in examples/rows."""
+"""The rows of examples/rows: networks, with their records and reports."""
 
 import os
 import re
@@ -7,11 +7,11 @@ from accept.examples import ALONE, SEVERAL, text_of
 from accept.shell import run
 from accept.tally import first_difference
 
-PAGE = "docs/worked-examples.md"
 FOLDER = "examples/rows"
+PAGE = f"{FOLDER}/README.md"
 
-# A line of the page's table: the name of a row, and the status of its run.
-ROW = re.compile(r"^\| `(\w+)` \| (\d) \|", re.M)
+# Where the page says which rows end with a status.
+ROWS = re.compile(r"^Status (\d): ([^.]*)\.$", re.M)
 
 # A run that is stopped before its first event: the network and records, the report, the limit and the status.
 STOPPED = "parse_three", "limit_zero", "0", 3
@@ -42,7 +42,8 @@ def compare_row(part, copy, name, report, words, status):
 
 def run_all(part, copy):
     """Runs each row, with one worker and with several, and sees that the page names all of them."""
-    rows = ROW.findall(text_of(copy, PAGE))
+    told = ROWS.findall(text_of(copy, PAGE))
+    rows = [(name, status) for status, names in told for name in re.findall(r"`(\w+)`", names)]
     files = {name[: -len(".toml")] for name in os.listdir(os.path.join(copy, FOLDER)) if name.endswith(".toml")}
     part.compare(f"the rows of {PAGE}", ("names", sorted(files), sorted(name for name, _ in rows)))
     for name, status in rows:
