@@ -9,7 +9,7 @@ import glob
 import os
 import re
 
-PAGES = ["README.md", "docs/*.md", "examples/README.md", "examples/orders/README.md", "bench/README.md", "crates/*/CALLING.md", "crates/*/README.md"]
+PAGES = ["README.md", "docs/*.md", "examples/README.md", "examples/*/README.md", "bench/README.md", "crates/*/CALLING.md", "crates/*/README.md"]
 
 FENCE = re.compile(r"^```(\w*)\n(.*?)^```$", re.M | re.S)
 TICKED = re.compile(r"`([^`]+)`")

@@ -1,5 +1,5 @@
-"""A program of one's own: the folder that bin/new_program makes, and the samples of docs/from-tpl-dataflow.md: functions, which stand in
-such a folder as one program, and the networks of examples/tpl. Nothing is proved."""
+"""A program of one's own: the folder that bin/new_program makes, and the samples of examples/tpl/README.md: functions, which stand in such a
+folder as one program, and networks. Nothing is proved."""
 
 import os
 import re
@@ -8,8 +8,8 @@ from accept.examples import STATUS, compare_report, text_of
 from accept.shell import path_without, run
 from accept.tally import first_difference
 
-PAGE = "docs/from-tpl-dataflow.md"
 NETWORKS = "examples/tpl"
+PAGE = f"{NETWORKS}/README.md"
 
 # How long a build without proof may take.
 SECONDS = 1800
@@ -37,7 +37,7 @@ FENCE = re.compile(r"^```(\w+)\n(.*?)^```$", re.M | re.S)
 FUNCTION = re.compile(r"^fn (\w+)(?:<[^>]*>)?\(\s*rt: (&?)\w+,?\s*\)", re.M)
 
 # The network of a section.
-NETWORK = re.compile(rf"\(\.\./{NETWORKS}/(\w+)\.toml\)")
+NETWORK = re.compile(r"\((\w+)\.toml\)")
 
 # Where the page says so, a network is run with so many workers too.
 SEVERAL = "with 4 workers as with 1"
