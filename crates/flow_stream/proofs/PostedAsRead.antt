@@ -16,10 +16,15 @@ use Rattle.flow_link.specs.Posted.{input_of, is_numbered_ending, ends_by_number}
 use Rattle.flow_link.specs.Trace.{InputTrace}
 use Rattle.flow_core.specs.Inputs.{none_posted}
 use Rattle.flow_core.specs.State.{NetState, fresh_net}
-use Rattle.flow_core.proofs.InputsChange.{fresh_none_posted}
-use Rattle.flow_net.specs.Net.{run_with}
+use Rattle.flow_core.proofs.InputsChange.{fresh_none_posted, same_where_none_posted}
+use Rattle.flow_lawful.specs.Lawful.{Lawful}
+use Rattle.flow_net.specs.Net.{layout_in, parts_of, run_with}
+use Rattle.flow_net.specs.declared.net.Net.{Net}
+use Rattle.flow_crew.specs.Runs.{RunsOn}
+use Rattle.flow_report.specs.Complete.{is_complete}
+use Rattle.flow_report.specs.Report.{run_in}
 use Rattle.flow_record_text.specs.Records.{PostAll, input_names, posted_endings, posted_values}
-use Rattle.flow_stream.specs.Chunk.{IsPosted}
+use Rattle.flow_stream.specs.Chunk.{IsPosted, IsRunOver}
 
 names_more : (b : Bool) (name : List ℕ) (rest : List (List ℕ)) → length (cond b (name ∷ []) [] ++ rest) ≡ cond {A = ℕ} b 1 0 + length rest
 names_more true name rest = omega arith
@@ -70,6 +75,26 @@ posts_to_inputs text layout start posted made values endings =
 pub posted_in : (text : List ℕ) (now layout : Layout Steps) (start : NetState) → now ≡ layout
     → IsPosted text (run_with meaning_of layout start) → IsPosted text (run_with meaning_of now start)
 posted_in text now layout start same posted = subst (λ (l : Layout Steps). IsPosted text (run_with meaning_of l start)) (sym same) posted
+
+-- and its inputs are given the same as it goes on
+pub posted_as : (text : List ℕ) (layout : Layout Steps) (start now : NetState)
+    → (run_with meaning_of layout now).trace.inputs ≡ (run_with meaning_of layout start).trace.inputs
+    → IsPosted text (run_with meaning_of layout start) → IsPosted text (run_with meaning_of layout now)
+posted_as text layout start now same posted = record {
+  values = subst (λ (inputs : List InputTrace). PostAll (input_names layout.blocks) text (map (λ (input : InputTrace). input.posted) inputs)) (sym same) posted.values;
+  endings = ap (map (λ (input : InputTrace). input.ending)) same ∙ posted.endings;
+}
+
+-- a network that began with the records of a text and went on is a run over them, once all is through
+pub runs_over : {w : _} {e : _} (text : List ℕ) (old new : Net Steps w e) → RunsOn old new → none_posted (parts_of old) ≡ true
+    → IsPosted text (run_in old) → Lawful (run_in new) → is_complete (run_in new) ≡ true → IsRunOver text (run_in new)
+runs_over text old new runs none posted lawful complete = record {
+  posted = posted_as text (layout_in new) (parts_of old) (parts_of new)
+      (same_where_none_posted (parts_of old) (parts_of new) runs.inputs_stay none)
+      (posted_in text (layout_in new) (layout_in old) (parts_of old) runs.same_layout posted);
+  lawful = lawful;
+  complete = complete;
+}
 
 -- in a network that begins, no value is posted to a target that has not answered
 pub none_at_first : (layout : Layout Steps) (start : NetState) (inputs : List InputTrace) → start ≡ fresh_net layout inputs → none_posted start ≡ true

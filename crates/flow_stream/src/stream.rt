@@ -12,6 +12,9 @@ use flow_value::Steps;
 use std::alloc::Global;
 use std::io;
 use std::io::{BufReader, Read, Write};
+use std::sync::Wait;
+use std::thread::Threads;
+use std::time::{Clock, CpuClock};
 
 /// A network, and records for it. Each chunk is run by a network of its own, so nothing is held from one to the next, and no more than
 /// one is in memory.
@@ -56,11 +59,16 @@ impl<R: Read + Drop> Stream<R> {
         }
     }
 
-    /// Runs the next chunk, writes what its actions recorded, and tells how many records it had: 0 where there are none any more, and
-    /// nothing is written then. Nothing is written either of a chunk whose run does not end with status 0.
-    pub fn advance<W: Write>(
+    /// Runs the next chunk by so many workers, writes what its actions recorded, and tells how many records it had: 0 where there are
+    /// none any more, and nothing is written then. Nothing is written either of a chunk whose run does not end with status 0.
+    ///
+    /// One worker does the events one after another. More help where messages are worked on for long; they are 64 at most. It waits for
+    /// its threads.
+    pub fn advance<C: Threads + Wait + Clock + CpuClock + Sync, W: Write>(
         self,
+        rt: &C,
         alloc: Global,
+        workers: usize,
         writer: &mut W,
     ) -> Result<(Stream<R>, u64), StreamFault> {
         let Stream {
@@ -77,7 +85,8 @@ impl<R: Read + Drop> Stream<R> {
             Err(fault) => return Err(StreamFault::Chunk(span, fault)),
         };
         if count > 0 {
-            let (same, page) = match run_and_print(alloc, plan, texts.text(), before, form) {
+            let text = texts.text();
+            let (same, page) = match run_and_print(rt, alloc, plan, text, before, workers, form) {
                 Ok(done) => done,
                 Err(fault) => return Err(StreamFault::Chunk(span, fault)),
             };
@@ -106,16 +115,18 @@ fn span_of(before: u64, number: u64) -> Span {
 }
 
 /// Runs a chunk, whose records are behind so many. The plan comes back, with what is written of the run.
-fn run_and_print(
+fn run_and_print<C: Threads + Wait + Clock + CpuClock + Sync>(
+    rt: &C,
     alloc: Global,
     plan: Plan<Steps>,
     text: &[u8],
     before: u64,
+    workers: usize,
     form: Form,
 ) -> Result<(Plan<Steps>, Vec<u8>), ChunkFault>
     ensures same_plan { IfOk result (λ done. layout_of done.0 ≡ layout_of plan) }
 {
-    let net = run_chunk(alloc, plan, text, before)?;
+    let net = run_chunk(rt, alloc, plan, text, before, workers)?;
     let page = page_of(alloc, &net, form)?;
     Ok((plan_of(net), page))
 }

@@ -289,6 +289,7 @@ printed, and nothing of them. So `--from`, with the first of them, goes on there
 
 example:
   flow stream 1000 network.toml < records.csv > results.csv
+  flow stream 1000 network.toml 4 < records.csv > results.csv
   flow stream 1000 --jsonl --from 2001 network.toml < records.csv",
     arguments: &[
         argument!(
@@ -297,6 +298,11 @@ example:
             "How many records a chunk has"
         ),
         NETWORK,
+        argument!(
+            "workers",
+            Form::Optional("WORKERS"),
+            "How many workers run a chunk, 1 to 64; 1 where it is not given, and more help where messages are worked on for long"
+        ),
         argument!(
             "jsonl",
             Form::Flag(&[]),

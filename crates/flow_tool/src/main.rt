@@ -38,7 +38,9 @@ use std::env::Env;
 use std::fs::Files;
 use std::io::{Input, IsTerminal, Write};
 use std::process::ExitCode;
-use std::time::Clock;
+use std::sync::Wait;
+use std::thread::Threads;
+use std::time::{Clock, CpuClock};
 use std::{env, io};
 
 fn main(rt: HostRuntime) -> ExitCode {
@@ -64,10 +66,19 @@ struct Terminals {
 }
 
 /// Does what the arguments of the process ask for, and answers the status.
-fn perform<R: Env + Files + Input + Print + Eprint + AllocGlobal + Clock>(
-    rt: &R,
-    terminals: Terminals,
-) -> Result<u8, Stop> {
+fn perform<
+    R: Env
+        + Files
+        + Input
+        + Print
+        + Eprint
+        + AllocGlobal
+        + Threads
+        + Wait
+        + Clock
+        + CpuClock
+        + Sync,
+>(rt: &R, terminals: Terminals) -> Result<u8, Stop> {
     let arguments = match env::args(rt) {
         Ok(arguments) => arguments,
         Err(error) => return Err(Stop::usage("an argument is not UTF-8").unless_memory(&error)),
@@ -96,11 +107,9 @@ fn is_set<R: Env + AllocGlobal>(rt: &R, name: &str) -> bool {
 }
 
 /// Does what these words ask for, of which the first is the program's name.
-fn answer<R: Files + Input + Print + Eprint + AllocGlobal + Clock>(
-    rt: &R,
-    words: &[String],
-    look: Look,
-) -> Result<u8, Stop> {
+fn answer<
+    R: Files + Input + Print + Eprint + AllocGlobal + Threads + Wait + Clock + CpuClock + Sync,
+>(rt: &R, words: &[String], look: Look) -> Result<u8, Stop> {
     match command_line(rt.alloc())?.try_get_matches_from(words) {
         Ok(matches) => dispatch(rt, &matches, look),
         Err(error) => match error.kind() {
@@ -138,11 +147,9 @@ fn refusal_in(alloc: Global, words: &[String]) -> Result<Stop, AllocError> {
 }
 
 /// Does what a command line that was accepted asks for.
-fn dispatch<R: Files + Input + Print + Eprint + AllocGlobal + Clock>(
-    rt: &R,
-    matches: &ArgMatches<'_>,
-    look: Look,
-) -> Result<u8, Stop> {
+fn dispatch<
+    R: Files + Input + Print + Eprint + AllocGlobal + Threads + Wait + Clock + CpuClock + Sync,
+>(rt: &R, matches: &ArgMatches<'_>, look: Look) -> Result<u8, Stop> {
     match matches.subcommand() {
         Some(("check", given)) => check(rt, given),
         Some(("draw", given)) => draw(rt, given, look.is_coloured),

@@ -12,21 +12,31 @@ use std::alloc::Global;
 use std::fs::Files;
 use std::io;
 use std::io::{BufReader, Input, Read, Write};
-use std::time::{Clock, Instant};
+use std::sync::Wait;
+use std::thread::Threads;
+use std::time::{Clock, CpuClock, Instant};
+
+/// The most workers that a run may have.
+const MOST_WORKERS: u64 = 64;
 
 /// Runs the records of standard input chunk by chunk, and writes what the actions of each recorded. On a terminal it is told on standard
 /// error how far it is.
-pub fn stream<R: Files + Input + Print + Eprint + AllocGlobal + Clock>(
-    rt: &R,
-    given: &ArgMatches<'_>,
-    is_watched: bool,
-) -> Result<u8, Stop> {
+pub fn stream<
+    R: Files + Input + Print + Eprint + AllocGlobal + Threads + Wait + Clock + CpuClock + Sync,
+>(rt: &R, given: &ArgMatches<'_>, is_watched: bool) -> Result<u8, Stop> {
     let size = number_in(
         given.get_str("size"),
+        u64::MAX,
         "COUNT is a number of records, from 1",
+    )?;
+    let workers = number_in(
+        given.get_str("workers"),
+        MOST_WORKERS,
+        "WORKERS is a number from 1 to 64",
     )?;
     let first = number_in(
         given.get_str("from"),
+        u64::MAX,
         "--from needs the number of a record, from 1",
     )?;
     let plan = plan_to_stream(rt, given.get_str("network").unwrap_or(""))?;
@@ -37,7 +47,7 @@ pub fn stream<R: Files + Input + Print + Eprint + AllocGlobal + Clock>(
     }
     let mut writer = output(rt)?;
     let mut told = Told::begin(rt, is_watched);
-    let outcome = run_all(rt, stream, &mut writer, &mut told);
+    let outcome = run_all(rt, stream, workers as usize, &mut writer, &mut told);
     told.end(rt);
     match outcome {
         Ok(()) => finish(writer, 0),
@@ -45,12 +55,12 @@ pub fn stream<R: Files + Input + Print + Eprint + AllocGlobal + Clock>(
     }
 }
 
-/// The number from 1 that an argument is, 1 where there is none, or what is wrong with it.
-fn number_in(argument: Option<&str>, due: &str) -> Result<u64, Stop> {
+/// The number from 1 to this one that an argument is, 1 where there is none, or what is wrong with it.
+fn number_in(argument: Option<&str>, most: u64, due: &str) -> Result<u64, Stop> {
     match argument {
         None => Ok(1),
         Some(text) => match text.parse::<u64>() {
-            Ok(number) if number > 0 => Ok(number),
+            Ok(number) if number > 0 && number <= most => Ok(number),
             _ => Err(Stop::usage(due)),
         },
     }
@@ -82,15 +92,20 @@ fn form_of(given: &ArgMatches<'_>) -> Form {
     }
 }
 
-/// Runs all chunks.
-fn run_all<R: Eprint + AllocGlobal + Clock, I: Read + Drop, W: Write>(
+/// Runs all chunks, each by so many workers.
+fn run_all<
+    R: Eprint + AllocGlobal + Threads + Wait + Clock + CpuClock + Sync,
+    I: Read + Drop,
+    W: Write,
+>(
     rt: &R,
     mut stream: Stream<I>,
+    workers: usize,
     writer: &mut W,
     told: &mut Told,
 ) -> Result<(), StreamFault> {
     'chunks: for _ in 0..u64::MAX {
-        let (next, count) = stream.advance(rt.alloc(), writer)?;
+        let (next, count) = stream.advance(rt, rt.alloc(), workers, writer)?;
         stream = next;
         if count == 0 {
             break;

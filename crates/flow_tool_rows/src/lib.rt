@@ -39,6 +39,8 @@ mod sifted_alone;
 #[cfg(test)]
 mod stream;
 #[cfg(test)]
+mod stream_workers;
+#[cfg(test)]
 mod told;
 #[cfg(test)]
 mod traces;

@@ -8,6 +8,9 @@ use std::alloc::Global;
 use std::io;
 use std::io::{BufReader, ErrorKind, Write};
 use std::process::Abort;
+use std::sync::Wait;
+use std::thread::Threads;
+use std::time::{Clock, CpuClock};
 
 const CHAIN: &str = r#"format = 1
 block = [
@@ -93,7 +96,7 @@ fn told_of(rt: &(impl Abort + Print), alloc: Global, fault: StreamFault) -> Stri
 
 /// What a stream writes behind so many records, and why it ends, if not for want of records.
 fn streamed(
-    rt: &(impl Abort + Print),
+    rt: &(impl Abort + Print + Threads + Wait + Clock + CpuClock + Sync),
     alloc: Global,
     stream: Stream<&[u8]>,
     skipped: u64,
@@ -102,7 +105,7 @@ fn streamed(
     given(rt, "records to skip", stream.skip(skipped));
     let mut text = Vec::new(alloc);
     for _ in 0..u64::MAX {
-        match stream.advance(alloc, &mut text) {
+        match stream.advance(rt, alloc, 1, &mut text) {
             Ok((_, 0)) => break,
             Ok((next, _)) => stream = next,
             Err(fault) => {
@@ -116,7 +119,12 @@ fn streamed(
 }
 
 /// Tests that of a row is written what is due, from a reader that holds so many bytes.
-fn is_streamed(rt: &(impl Abort + Print), alloc: Global, row: &str, room: usize) {
+fn is_streamed(
+    rt: &(impl Abort + Print + Threads + Wait + Clock + CpuClock + Sync),
+    alloc: Global,
+    row: &str,
+    room: usize,
+) {
     let (_, others) = two_cells(rt, row);
     let (name, others) = two_cells(rt, others);
     let (size, others) = two_cells(rt, others);
@@ -199,7 +207,7 @@ const AWKWARD: &[u8] =
 
 /// What a stream writes of these records in one chunk.
 fn written(
-    rt: &(impl Abort + Print),
+    rt: &(impl Abort + Print + Threads + Wait + Clock + CpuClock + Sync),
     alloc: Global,
     network: &str,
     records: &[u8],
@@ -210,7 +218,12 @@ fn written(
 }
 
 /// Tests that what a stream writes in two forms are the results of its report.
-fn is_as_reported(rt: &(impl Abort + Print), alloc: Global, network: &str, records: &[u8]) {
+fn is_as_reported(
+    rt: &(impl Abort + Print + Threads + Wait + Clock + CpuClock + Sync),
+    alloc: Global,
+    network: &str,
+    records: &[u8],
+) {
     let report = written(rt, alloc, network, records, Form::Report);
     for (form, printed) in [
         (Form::Csv, ResultsForm::Csv),
@@ -275,7 +288,12 @@ impl Write for Narrow {
 }
 
 /// Tests that a stream whose writer takes just its first chunk ends for this.
-fn ends_for(rt: &(impl Abort + Print), alloc: Global, failure: ErrorKind, due: &str) {
+fn ends_for(
+    rt: &(impl Abort + Print + Threads + Wait + Clock + CpuClock + Sync),
+    alloc: Global,
+    failure: ErrorKind,
+    due: &str,
+) {
     let records: &[u8] = b"in,1\nin,2\nin,3\nin,4\n";
     let stream = opened(rt, alloc, CHAIN, (records, 4_096), 2, Form::Csv);
     let mut writer = Narrow {
@@ -283,9 +301,13 @@ fn ends_for(rt: &(impl Abort + Print), alloc: Global, failure: ErrorKind, due: &
         room: 16,
         failure,
     };
-    let (next, _) = given(rt, "the first chunk", stream.advance(alloc, &mut writer));
+    let (next, _) = given(
+        rt,
+        "the first chunk",
+        stream.advance(rt, alloc, 1, &mut writer),
+    );
     are_due(rt, "the first chunk", b"out,100\nout,200\n", &writer.taken);
-    match next.advance(alloc, &mut writer) {
+    match next.advance(rt, alloc, 1, &mut writer) {
         Ok(_) => panic!(rt; "no failure"),
         Err(fault) => is_due(rt, due, due, told_of(rt, alloc, fault).as_str()),
     }
