@@ -43,7 +43,8 @@ impl<R: Read + Drop> Texts<R> {
 
     /// The text of those that were taken last.
     ///
-    /// But for the first of all it has a line end in front, so that a byte order mark is part of a record there, as it is in the whole.
+    /// Where a byte order mark may begin it, it has a line end in front, so that the mark is part of a record, as it is in the whole. But
+    /// that of the first of all has none.
     pub fn text(&self) -> &[u8]
         ensures { result.now ≡ self.now.text.items }
     {
@@ -78,15 +79,18 @@ impl<R: Read + Drop> Texts<R> {
         Ok(taken)
     }
 
-    /// Begins the next text.
+    /// Begins the next text. Without need it gets no line end in front: a run reads the plain lines that a text begins with sooner.
     fn begin(&mut self) -> Result<(), ChunkFault> {
         self.text.clear();
-        if self.has_begun {
-            self.text.push(b'\n')?;
-            return Ok(());
+        if !self.has_begun {
+            self.has_begun = true;
+            return self.take_mark();
         }
-        self.has_begun = true;
-        self.take_mark()
+        self.fill()?;
+        if self.reader.buffer().first().copied() == Some(BYTE_ORDER_MARK[0]) {
+            self.text.push(b'\n')?;
+        }
+        Ok(())
     }
 
     /// Takes the byte order mark that the reader begins with, or what there is of one.

@@ -19,6 +19,10 @@ use std::time::{Clock, CpuClock, Instant};
 /// The most workers that a run may have.
 const MOST_WORKERS: u64 = 64;
 
+/// How much memory is asked for and given back before the first chunk. From then on glibc's malloc keeps up to twice as much of what a
+/// chunk gives back, and the next one takes it. Else it would go to the kernel, and come from there anew, page by page.
+const GIVEN_BACK: usize = 8 * 1_024 * 1_024;
+
 /// Runs the records of standard input chunk by chunk, and writes what the actions of each recorded. On a terminal it is told on standard
 /// error how far it is.
 pub fn stream<
@@ -40,6 +44,7 @@ pub fn stream<
         "--from needs the number of a record, from 1",
     )?;
     let plan = plan_to_stream(rt, given.get_str("network").unwrap_or(""))?;
+    let _ = Vec::<u8>::with_capacity(rt.alloc(), GIVEN_BACK);
     let reader = BufReader::new(rt.alloc(), rt.reader())?;
     let mut stream = Stream::new(rt.alloc(), plan, reader, size, form_of(given));
     if let Err(fault) = stream.skip(first.saturating_sub(1)) {
