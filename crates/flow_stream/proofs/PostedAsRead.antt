@@ -85,6 +85,10 @@ posted_as text layout start now same posted = record {
   endings = ap (map (λ (input : InputTrace). input.ending)) same ∙ posted.endings;
 }
 
+-- as it goes on, it keeps its plan
+pub keeps_plan : {w : _} {e : _} (plan : Layout Steps) (old new : Net Steps w e) → RunsOn old new → layout_in old ≡ plan → layout_in new ≡ plan
+keeps_plan plan old new runs same = runs.same_layout ∙ same
+
 -- a network that began with the records of a text and went on is a run over them, once all is through
 pub runs_over : {w : _} {e : _} (text : List ℕ) (old new : Net Steps w e) → RunsOn old new → none_posted (parts_of old) ≡ true
     → IsPosted text (run_in old) → Lawful (run_in new) → is_complete (run_in new) ≡ true → IsRunOver text (run_in new)

@@ -23,6 +23,7 @@ use std::time::{Clock, CpuClock};
 /// A network of this plan after its run over the records of a text, which are behind so many: every block is done, and nothing waits at
 /// an input. It has so many workers, one where there is to be none, and 64 at most. It has no limit, since each run comes to an end: a
 /// network has no cycle.
+#[tactic(auto, using(crate::proofs::PostedAsRead::runs_over, crate::proofs::PostedAsRead::keeps_plan))]
 pub(crate) fn run_chunk<C: Threads + Wait + Clock + CpuClock + Sync>(
     rt: &C,
     alloc: Global,
