@@ -1,6 +1,7 @@
 """What the wrappers say where standard error is a terminal, and only there."""
 
 import os
+import re
 import shutil
 from typing import NamedTuple
 
@@ -89,6 +90,10 @@ READ_NO_FURTHER = [
     ("bin/flow_run --help | head -n 1", USAGE),
 ]
 
+# A call that waits for a record for two seconds, and what is told meanwhile, at most once a second.
+WATCHED = "{ echo prices,1; sleep 2; echo prices,2; } | bin/flow stream 1 examples/fault.toml"
+TOLD = re.compile(r"(\rflow: \d+ records, \d+ a second  ){1,2}\n")
+
 
 def stand_in(bare, name, text):
     """Puts a script in the place of a program."""
@@ -132,8 +137,13 @@ def call_unbuilt(part, bare):
 
 
 def call_built(part, copy):
-    """The programs end quietly on a terminal where nobody reads on."""
+    """The programs end quietly on a terminal where nobody reads on, and `flow stream` tells there how far it is."""
     run("yes orders,1 | head -n 100000 | bin/flow_run examples/import.toml 1 > large.results.report", copy)
     for command, wanted in READ_NO_FURTHER:
         ended = run_on_terminal(command, copy)
         part.compare(f"{command}, on a terminal", ("output", wanted, ended.out), ("standard error", "", ended.err))
+    ended = run_on_terminal(WATCHED, copy)
+    part.compare(f"{WATCHED}, on a terminal", ("output", "cents,100\ncents,200\n", ended.out))
+    part.count(TOLD.fullmatch(ended.err) is not None, f"{WATCHED}, on a terminal: how far it is", [ended.err])
+    ended = run(WATCHED, copy)
+    part.compare(f"{WATCHED}, elsewhere", ("output", "cents,100\ncents,200\n", ended.out), ("standard error", "", ended.err))
