@@ -7,11 +7,13 @@ import shutil
 from accept.shell import run, run_on_terminal
 from accept.terminals import stand_in
 
-# What `bin/flow_run` hands on of a variable of the environment, by how it is called.
+# What the commands hand on of a variable of the environment, by how they are called.
 HANDED_ON = {
     "bin/flow_run examples/import.toml 1": "1",
     "MALLOC_ARENA_MAX=3 bin/flow_run examples/import.toml 1": "3",
     "MALLOC_ARENA_MAX= bin/flow_run examples/import.toml 1": "",
+    "bin/flow stream 2 examples/import.toml 4": "1",
+    "MALLOC_ARENA_MAX=3 bin/flow stream 2 examples/import.toml 4": "3",
 }
 
 # Texts that are copied, and read as numbers, so that each work grows and shrinks.
@@ -52,7 +54,8 @@ PART_OF_KERNEL = 0.25
 
 
 def hand_on(part, bare):
-    stand_in(bare, "flow_run", '#!/bin/sh\nprintf %s "${MALLOC_ARENA_MAX-unset}"\n')
+    for name in ("flow_run", "flow"):
+        stand_in(bare, name, '#!/bin/sh\nprintf %s "${MALLOC_ARENA_MAX-unset}"\n')
     for command, wanted in HANDED_ON.items():
         for ended in (run(f"unset MALLOC_ARENA_MAX; {command}", bare), run_on_terminal(f"unset MALLOC_ARENA_MAX; {command}", bare)):
             part.compare(f"{command}: MALLOC_ARENA_MAX", ("status", 0, ended.status), ("handed on", wanted, ended.out))
