@@ -47,4 +47,6 @@ mod traces;
 #[cfg(test)]
 mod unequal;
 #[cfg(test)]
+mod verdicts;
+#[cfg(test)]
 mod warned;
