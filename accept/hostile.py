@@ -8,7 +8,10 @@ import tempfile
 from accept.builds import SECONDS, keep_log
 from accept.examples import ALONE, OPEN, SEVERAL, names_of, text_of, wanted_of
 from accept.rows import write_rows
-from accept.shell import run
+from accept.shell import Ended, run
+
+# How failing.c is loaded before a program.
+PRELOADED = "LD_PRELOAD=./out/failing.so"
 
 # What failing.c says on standard error where it has a call fail.
 FAILED = "one call fails\n"
@@ -63,15 +66,46 @@ def build_failing(part, copy):
     return ended.status == 0
 
 
+def each_copied(copy, words, command):
+    """Runs a command once, which is copied as failing.c says by these words, and answers for each copy its number and how it ended."""
+    with tempfile.TemporaryDirectory(dir=os.path.join(copy, "out")) as room:
+        path = os.path.join(room, "ends")
+        run(f"{words} ENDS={path} {PRELOADED} {command} 1<> {room}/output 2<> {room}/error", copy, SECONDS)
+        if not os.path.exists(path):
+            return
+        with open(path, "rb") as ends:
+            for line in ends:
+                number, status, *sizes = map(int, line.split())
+                yield number, Ended(status, *map(ends.read, sizes))
+
+
 def each_failing(copy, kind, command):
-    """How a command ends of which one call of this kind fails, for each such call that it makes."""
+    """How a command ends of which one call of this kind fails, for each such call that it makes: in a copy, or else in a run of its own."""
+    copies = each_copied(copy, f"FAILS={kind}:each", command)
+    copied = next(copies, None)
     for number in range(1, MOST):
-        ended = run(f"FAILS={kind}:{number} LD_PRELOAD=./out/failing.so {command}", copy)
+        if copied and copied[0] == number:
+            ended, copied = copied[1], next(copies, None)
+        else:
+            ended = run(f"FAILS={kind}:{number} {PRELOADED} {command}", copy)
         if FAILED not in ended.err:
             return
         ended.err = ended.err.replace(FAILED, "")
         yield number, ended
     raise RuntimeError(f"{command} makes more than {MOST} calls")
+
+
+def each_of_texts(copy, path, texts, command):
+    """How a command ends that finds each of these texts in the file of this path: in a copy, or else in a run of its own."""
+    listed = f"{path}.texts"
+    with open(listed, "wb") as file:
+        file.writelines(b"%d,%s" % (len(text), text) for text in texts)
+    copies = dict(each_copied(copy, f"FAILS=text:each TEXT={path} TEXTS={listed}", command))
+    for number, text in enumerate(texts, 1):
+        if number not in copies:
+            with open(path, "wb") as file:
+                file.write(text)
+        yield copies[number] if number in copies else run(command, copy)
 
 
 def shown(number, ended):
@@ -222,12 +256,10 @@ def break_text(part, copy, room, paths, suffix):
     with open(os.path.join(copy, paths[suffix]), "rb") as file:
         whole = file.read()
     read = {**paths, suffix: os.path.join(room, f"broken.{suffix}")}
-    wrong = []
-    for how, text in broken(whole):
-        with open(read[suffix], "wb") as file:
-            file.write(text)
-        ended = run(f"out/flow_run.unproved {read['toml']} {ALONE} < {read['csv']}", copy)
-        wrong += [] if is_answered(ended, suffix) else [how, *shown(0, ended)]
+    shutil.copy(os.path.join(copy, paths[suffix]), read[suffix])
+    ways, texts = zip(*broken(whole))
+    ended = each_of_texts(copy, read[suffix], texts, f"out/flow_run.unproved {read['toml']} {ALONE} < {read['csv']}")
+    wrong = [line for how, came in zip(ways, ended) if not is_answered(came, suffix) for line in [how, *shown(0, came)]]
     part.count(not wrong, paths[suffix], wrong)
 
 
