@@ -5,7 +5,7 @@ import re
 import shutil
 import tempfile
 
-from accept.builds import SECONDS, keep_log
+from accept.builds import SECONDS, SHORTEST, keep_log
 from accept.examples import ALONE, OPEN, SEVERAL, names_of, text_of, wanted_of
 from accept.rows import write_rows
 from accept.shell import Ended, run
@@ -175,7 +175,7 @@ def starve_flow(part, copy, words):
 
 
 def build(part, copy, logs, crate):
-    script = f". bin/program.sh; use_program {crate} {crate}; build_unproved"
+    script = f"export {SHORTEST}; . bin/program.sh; use_program {crate} {crate}; build_unproved"
     ended = run(["sh", "-c", script, "bin/flow_run"], copy, SECONDS)
     keep_log(logs, crate, ended)
     part.compare(f"build of {crate}", ("status", 0, ended.status))
