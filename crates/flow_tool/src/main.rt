@@ -1,8 +1,8 @@
 //! The program for people at a terminal: what is beside a run of `flow_run`, before it and after it.
 //!
-//! Proved: safe and total; want of memory of the system ends it with status 4.
+//! Proved: safe, and total but for `flow stream`, which waits for its threads; want of memory of the system ends it with status 4.
 //! Tested: its commands, by bin/accept and flow_tool_rows.
-//! Neither: what it prints.
+//! Neither: what it prints; that a call which waits for threads returns.
 #![tactic(auto)]
 
 mod checking;
