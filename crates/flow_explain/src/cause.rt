@@ -5,7 +5,7 @@ use crate::rows::{Row, Rows, opens_quote};
 use flow_fault_text::TextFault;
 use flow_hints::quoted;
 use flow_link::Plan;
-use flow_places::Span;
+use flow_spans::Span;
 use flow_value::Steps;
 use std::alloc::{AllocError, Global};
 

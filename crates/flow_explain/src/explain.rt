@@ -13,8 +13,8 @@ use crate::words::{add_when_flaw, add_work_flaws};
 use flow_fault_text::{TextFault, TextPlace, TextRefusal};
 use flow_hints::{Warning, warnings_of};
 use flow_link::{Place, PlanFault};
-use flow_places::{Part, Span, line_span, places_in};
 use flow_plan_text::read_plan;
+use flow_spans::{Part, Span, line_span, places_in};
 use std::alloc::{AllocError, Global};
 
 /// The format of networks that are read.

@@ -1,6 +1,6 @@
 //! Flaws of a text, for which it is refused.
 use flow_fault_text::TextFault;
-use flow_places::Span;
+use flow_spans::Span;
 use std::alloc::{AllocError, Global};
 use std::fmt::Display;
 

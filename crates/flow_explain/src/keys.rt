@@ -1,7 +1,7 @@
 //! The keys of a network's text, and the words for kinds of block.
 use flow_fault_text::TextPlace;
 use flow_link::BlockKind;
-use flow_places::Part;
+use flow_spans::Part;
 
 /// What the value at a key is to be.
 #[derive(Clone, Copy)]

@@ -1,7 +1,7 @@
 //! A network's text that is TOML: what stands in it, and where.
 use crate::keys::kind_named;
 use flow_link::BlockKind;
-use flow_places::{Part, Places, Span};
+use flow_spans::{Part, Places, Span};
 use std::alloc::{AllocError, Global};
 use std::fmt;
 use toml::{Table, Value};
@@ -178,7 +178,7 @@ impl<'t> Network<'t> {
         item: usize,
     ) -> Result<Span, AllocError> {
         let value = self.value_span(part, key);
-        let found = flow_places::item_span(alloc, self.text, value, item)?;
+        let found = flow_spans::item_span(alloc, self.text, value, item)?;
         Ok(found.unwrap_or(value))
     }
 

@@ -9,7 +9,7 @@ use crate::shape::{fits, is_misspelt};
 use flow_fault_text::TextFault;
 use flow_hints::quoted;
 use flow_link::{BlockKind, Place, PlanFault};
-use flow_places::Part;
+use flow_spans::Part;
 use std::alloc::{AllocError, Global};
 use std::fmt;
 

@@ -4,7 +4,7 @@ ghost use Rattle.std.specs.Prelude.{◌≡◌};
 use crate::finding::Flaw;
 use flow_fault_text::TextFault;
 use flow_hints::Warning;
-use flow_places::{Escaped, Excerpt, Span, excerpt_of, position_of};
+use flow_spans::{Escaped, Excerpt, Span, excerpt_of, position_of};
 use std::alloc::{AllocError, Global};
 use std::io;
 use std::io::{ErrorKind, Write};

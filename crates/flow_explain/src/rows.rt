@@ -1,6 +1,6 @@
 //! The records of a text, one after another, and where they stand.
 use csv::{ByteRecord, Reader, ReaderBuilder};
-use flow_places::Span;
+use flow_spans::Span;
 use std::alloc::{AllocError, Global};
 
 /// The records of a text.

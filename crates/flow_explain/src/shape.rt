@@ -5,7 +5,7 @@ use crate::keys::{Form, KINDS, Key, key_names, keys_of, kind_named, knows, place
 use crate::network::{Network, first_other, items_of};
 use flow_fault_text::TextFault;
 use flow_hints::{nearest, quoted};
-use flow_places::Part;
+use flow_spans::Part;
 use std::alloc::{AllocError, Global};
 use std::fmt;
 use toml::Value;

@@ -4,7 +4,7 @@ use crate::print::{Source, Style, out_of_memory, write_warning};
 use crate::rows::Rows;
 use flow_hints::{Warning, quoted};
 use flow_link::{BlockKind, Link, LinkSource, LinkTarget, Plan, PortId};
-use flow_places::Span;
+use flow_spans::Span;
 use flow_value::{Steps, When};
 use std::alloc::{AllocError, Global};
 use std::io;

@@ -4,7 +4,7 @@ use crate::hint::{Hint, near_or};
 use crate::network::Network;
 use flow_fault_text::{TextFault, TextPlace};
 use flow_hints::quoted;
-use flow_places::{Part, Span};
+use flow_spans::{Part, Span};
 use flow_value::{Steps, StepsError, When};
 use std::alloc::{AllocError, Global};
 use std::fmt;

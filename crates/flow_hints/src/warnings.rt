@@ -7,7 +7,7 @@ use crate::near::quoted;
 use crate::sorts::{Faulting, Flow, faulting_step, flow_of};
 use crate::ways::{Way, Ways, admits_no_more, is_any, port_count, ways_of};
 use flow_link::{BlockDef, Plan};
-use flow_places::{Part, Places, Span, item_span, places_in};
+use flow_spans::{Part, Places, Span, item_span, places_in};
 use flow_value::{Step, Steps, When};
 use std::alloc::{AllocError, Global};
 

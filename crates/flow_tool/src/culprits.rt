@@ -1,8 +1,8 @@
 //! Which records the faults of a run come from.
 use crate::sifting::LIMIT;
 use crate::stop::Stop;
+use flow_quarantine::sift;
 use flow_reading::{Report, State};
-use flow_sift::sift;
 use std::alloc::Global;
 use std::io;
 use std::io::Write;

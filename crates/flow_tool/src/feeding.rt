@@ -5,7 +5,7 @@ use crate::stop::Stop;
 use crate::whole_files::{Rules, beside_of, create, put_in_place, take_away};
 use clap::ArgMatches;
 use flow_feed::{Asked, BadRow, Fed, FeedFault, OnBad, Sent, Wanted};
-use flow_places::Escaped;
+use flow_spans::Escaped;
 use std::alloc::{AllocError, Global};
 use std::fs;
 use std::fs::Files;

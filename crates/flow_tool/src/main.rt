@@ -32,7 +32,7 @@ use crate::stop::Stop;
 use crate::streaming::stream;
 use clap::ArgMatches;
 use clap::error::ErrorKind;
-use flow_places::Escaped;
+use flow_spans::Escaped;
 use std::alloc::{AllocError, Global};
 use std::env::Env;
 use std::fs::Files;

@@ -3,7 +3,7 @@ use crate::files::{read_file, read_input};
 use crate::output::{finish, output};
 use crate::stop::Stop;
 use clap::ArgMatches;
-use flow_sift::Sifted;
+use flow_quarantine::Sifted;
 use std::fs::Files;
 use std::io::Input;
 
@@ -21,7 +21,7 @@ pub fn sift<R: Files + Input + Print + Eprint + AllocGlobal>(
     let records = read_input(rt)?;
     let mut good = output(rt)?;
     let mut bad = Vec::new(rt.alloc());
-    let outcome = flow_sift::sift(rt.alloc(), &network, &records, LIMIT, &mut good, &mut bad);
+    let outcome = flow_quarantine::sift(rt.alloc(), &network, &records, LIMIT, &mut good, &mut bad);
     let Sifted { set_aside, .. } = match outcome {
         Ok(sifted) => sifted,
         Err(refusal) => return Err(Stop::of_text(path, refusal)),

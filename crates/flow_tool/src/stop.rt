@@ -3,7 +3,7 @@ ghost use Rattle.std.specs.Prelude.{◌≡◌, ◌≢◌};
 ghost use Rattle.std.specs.IoError.{error_kind};
 
 use anyhow::anyhow;
-use flow_places::Escaped;
+use flow_spans::Escaped;
 use flow_text::{TextFault, TextRefusal};
 use std::alloc::{AllocError, AllocFailed, Global};
 use std::fmt::Display;

@@ -1,7 +1,7 @@
 //! Records that are cut in their order.
 use crate::check::{add, are_due, bytes_of, check, given, has_rows, number, two_cells};
 use csv::{ByteRecord, ReaderBuilder};
-use flow_pieces::cut_records;
+use flow_split::cut_records;
 use std::alloc::Global;
 use std::process::Abort;
 

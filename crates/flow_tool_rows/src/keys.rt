@@ -1,6 +1,6 @@
 //! Records that are dealt out by their key.
 use crate::check::{add, are_due, bytes_of, check, given, has_rows, number, two_cells};
-use flow_pieces::{KeyFault, KeyedPieces, Pairing, PieceFault, deal_by_key, part_of_key};
+use flow_split::{KeyFault, KeyedPieces, Pairing, PieceFault, deal_by_key, part_of_key};
 use std::alloc::Global;
 use std::process::Abort;
 

@@ -2,9 +2,9 @@
 use crate::check::{are_due, bytes_of, check, given, has_rows, head_and_lines, two_cells};
 use crate::networks::{ENOUGH, planned, report};
 use flow_outcome::{merge_reports, worst_status};
-use flow_pieces::cut_records;
 use flow_plan_outline::outline_of;
 use flow_reading::{Report, read_report};
+use flow_split::cut_records;
 use std::alloc::Global;
 use std::process::Abort;
 

@@ -3,7 +3,7 @@ use crate::check::given;
 use csv::ByteRecord;
 use flow_front::Inputs;
 use flow_link::Plan;
-use flow_pieces::Records;
+use flow_split::Records;
 use flow_text::{read_plan, write_report};
 use flow_value::{Steps, Text, Value};
 use std::alloc::Global;

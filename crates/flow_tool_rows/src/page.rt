@@ -2,9 +2,9 @@
 use crate::check::{add, check, given, has_rows, is_due, two_cells};
 use crate::networks::{ENOUGH, planned, report};
 use flow_outcome::{Admits, BlockOutline, Kind, LinkOutline, Outline};
-use flow_page::{PageFault, write_page};
 use flow_plan_outline::outline_of;
 use flow_reading::{Report, read_report};
+use flow_render::{PageFault, write_page};
 use std::alloc::Global;
 use std::process::Abort;
 

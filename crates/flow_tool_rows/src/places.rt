@@ -1,6 +1,6 @@
 //! Where records stand in a text.
 use crate::check::{are_due, bytes_of, check, given, has_rows, number, two_cells};
-use flow_pieces::Records;
+use flow_split::Records;
 use std::alloc::Global;
 use std::process::Abort;
 

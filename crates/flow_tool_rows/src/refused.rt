@@ -1,7 +1,7 @@
 //! Networks that are refused: each is explained by its fault, at the place where it stands.
 use crate::check::{add_words, bytes_of, check, given, has_rows, number, two_cells};
 use crate::told::{flaw_in, is_flawed, lines_of, unmarked};
-use flow_places::line_of;
+use flow_spans::line_of;
 use std::alloc::Global;
 use std::process::Abort;
 

@@ -1,6 +1,6 @@
 //! Records that are run alone.
 use crate::check::{are_due, bytes_of, check, given, has_rows, two_cells};
-use flow_sift::sift;
+use flow_quarantine::sift;
 use flow_text::{TextFault, TextPlace, TextRefusal};
 use std::alloc::Global;
 use std::process::Abort;

@@ -1,6 +1,6 @@
 //! Records that are sifted together, beside the same records each sifted by itself.
 use crate::check::{add, are_due, check, given, has_cases, head_and_lines};
-use flow_sift::sift;
+use flow_quarantine::sift;
 use std::alloc::Global;
 use std::process::Abort;
 

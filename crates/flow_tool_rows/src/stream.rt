@@ -2,7 +2,7 @@
 use crate::check::{add, are_due, bytes_of, check, given, has_rows, is_due, number, two_cells};
 use crate::networks::planned;
 use flow_outcome::{ResultsForm, write_results};
-use flow_pieces::Records;
+use flow_split::Records;
 use flow_stream::{Form, Stream, StreamFault};
 use std::alloc::Global;
 use std::io;

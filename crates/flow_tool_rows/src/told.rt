@@ -2,8 +2,8 @@
 use crate::check::{add_words, check, given, is_due};
 use flow_explain::{Answer, Source, Style, Verdict, check_network, explain_network};
 use flow_fault_text::{TextFault, TextRefusal};
-use flow_places::Span;
 use flow_plan_text::read_plan;
+use flow_spans::Span;
 use std::alloc::Global;
 use std::process::Abort;
 

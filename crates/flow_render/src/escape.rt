@@ -1,5 +1,5 @@
 //! Texts as HTML and SVG show them.
-use flow_places::turns;
+use flow_spans::turns;
 use std::io;
 use std::io::Write;
 

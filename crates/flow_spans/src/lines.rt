@@ -1,7 +1,7 @@
 //! Lines and columns.
 ghost use Rattle.std.specs.Prelude.{◌≡◌, ◌+◌, ◌≤◌, ◌==◌, ◌&&◌, not, count_by, length, min, take};
 ghost use Rattle.std.specs.List.{after_last, suffix_len};
-ghost use Rattle.flow_places.specs.Chars.{begins_char};
+ghost use Rattle.flow_spans.specs.Chars.{begins_char};
 
 use crate::span::Span;
 

@@ -1,5 +1,5 @@
 //! Where records stand in a text.
-use flow_pieces::Records;
+use flow_split::Records;
 
 /// Where a record stands in a text: its number and its line, both from 1, and its bytes with their line end.
 #[derive(Clone, Copy)]

@@ -6,7 +6,7 @@ use crate::aside::Aside;
 use crate::post::{plan_of, read_fields, start_alone};
 use flow_link::{LinkId, LinkSource, LinkTarget, Plan};
 use flow_net::{Net, NetFault, Settled, State};
-use flow_pieces::{PieceFault, Records};
+use flow_split::{PieceFault, Records};
 use flow_text::{TextFault, TextRefusal};
 use flow_value::Steps;
 use std::alloc::Global;

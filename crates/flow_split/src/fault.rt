@@ -17,7 +17,7 @@ pub enum PieceFault {
 }
 
 impl From<AllocError> for PieceFault {
-    ghost use Rattle.flow_pieces.specs.declared.fault.PieceFault.TheVariants.{Memory};
+    ghost use Rattle.flow_split.specs.declared.fault.PieceFault.TheVariants.{Memory};
     ghost use Rattle.std.specs.Prelude.{◌≡◌};
 
     ghost from_gives = { λ _ fault. fault ≡ Memory };
@@ -28,7 +28,7 @@ impl From<AllocError> for PieceFault {
 }
 
 impl<T: Drop> From<AllocFailed<T>> for PieceFault {
-    ghost use Rattle.flow_pieces.specs.declared.fault.PieceFault.TheVariants.{Memory};
+    ghost use Rattle.flow_split.specs.declared.fault.PieceFault.TheVariants.{Memory};
     ghost use Rattle.std.specs.Prelude.{◌≡◌};
 
     ghost from_gives = { λ _ fault. fault ≡ Memory };
@@ -48,7 +48,7 @@ pub enum DealFault {
 }
 
 impl From<AllocError> for DealFault {
-    ghost use Rattle.flow_pieces.specs.declared.fault.DealFault.TheVariants.{Memory};
+    ghost use Rattle.flow_split.specs.declared.fault.DealFault.TheVariants.{Memory};
     ghost use Rattle.std.specs.Prelude.{◌≡◌};
 
     ghost from_gives = { λ _ fault. fault ≡ Memory };
@@ -59,7 +59,7 @@ impl From<AllocError> for DealFault {
 }
 
 impl<T: Drop> From<AllocFailed<T>> for DealFault {
-    ghost use Rattle.flow_pieces.specs.declared.fault.DealFault.TheVariants.{Memory};
+    ghost use Rattle.flow_split.specs.declared.fault.DealFault.TheVariants.{Memory};
     ghost use Rattle.std.specs.Prelude.{◌≡◌};
 
     ghost from_gives = { λ _ fault. fault ≡ Memory };

@@ -9,7 +9,7 @@ use crate::spot::{Spot, text_of};
 use crate::together::run_together;
 use bstr::BStr;
 use flow_link::Plan;
-use flow_pieces::Records;
+use flow_split::Records;
 use flow_text::{TextFault, TextRefusal, read_plan};
 use flow_value::Steps;
 use std::alloc::{AllocError, Global};

@@ -1,5 +1,5 @@
 use Rattle.std.proofs.Common.{◌≡◌, length}
-use Rattle.flow_pieces.proofs.deal.align_parts.Given as goal
+use Rattle.flow_split.proofs.deal.align_parts.Given as goal
 
 abbrev pub invariant-loop-part : goal.invariant-loop-part
 invariant-loop-part l = length l.aligned.items ≡ l.part
