@@ -11,10 +11,10 @@ use std::alloc::Global;
 use std::thread::{Threads, join_mut, yield_now};
 
 /// How many numbers go over a link.
-const COUNT: u64 = 200;
+const COUNT: u64 = 60;
 
 /// How many runs there are, each with a seed of its own; the target reserves in every other.
-const SEEDS: u64 = 100;
+const SEEDS: u64 = 50;
 
 /// How many turns an end takes before it yields. On free cores it seldom yields; on a busy one the other thread comes soon.
 const TURNS_IN_ONE_GO: u64 = 1_000;
