@@ -28,6 +28,10 @@ plain-start (Some bytes) shown front some other =
     let first : get_or shown 0 0 ≡ get_or bytes 0 0 = ap (λ (piece : List ℕ). get_or piece 0 0) (sym front) ∙ get_or-take (length shown) bytes 0 0 some in
     first-stays bytes (omega (arith, long, some)) (ap (λ b. nat_eq b 239) (sym first) ∙ other)
 
+is-empty : (bytes : List ℕ) → length bytes ≡ 0 → bytes ≡ []
+is-empty [] none = refl
+is-empty (b ∷ bytes) none = absurd (omega (arith, none))
+
 module _ (names : List (List ℕ)) where
   -- one more record that is posted
   pub read-more : (number next : ℕ) (values after : List (List Value)) (bytes left more : List ℕ) (row : Row) → IsRead names number values bytes left
@@ -131,14 +135,14 @@ module _ (names : List (List ℕ)) where
       → GoesOn names n0 v0 n1 v1 (drop 1 line) → GoesFrom names n0 v0 n1 v1 old new
   from-line n0 n1 v0 v1 None new line reads goes = tt
   from-line n0 n1 v0 v1 (Some left) None line reads goes = reads
-  from-line n0 n1 v0 v1 (Some left) (Some more) line (rest, is, parts) goes = λ bytes read.
+  from-line n0 n1 v0 v1 (Some left) (Some more) line (rest, is, parts, ended) goes = λ bytes read.
       goes bytes more (subst (IsRead names n0 v0 bytes) (parts ∙ ap (λ (whole : List ℕ). drop 1 whole ++ more) (sym is)) read)
 
   pub stops-line-read : (n : ℕ) (v : List (List Value)) (old new : Option (List ℕ)) (line : List ℕ) (refusal : TextRefusal) → ReadsLine old new line
       → Stops names n v (drop 1 line) refusal → StopsFrom names n v old refusal
   stops-line-read n v None new line refusal reads stops = tt
   stops-line-read n v (Some left) None line refusal reads stops = absurd reads
-  stops-line-read n v (Some left) (Some more) line refusal (rest, is, parts) stops = λ bytes read.
+  stops-line-read n v (Some left) (Some more) line refusal (rest, is, parts, ended) stops = λ bytes read.
       stops bytes more (subst (IsRead names n v bytes) (parts ∙ ap (λ (whole : List ℕ). drop 1 whole ++ more) (sym is)) read)
 
   -- of a text of which nothing is read
@@ -192,6 +196,22 @@ module _ (names : List (List ℕ)) where
       let first = subst (IsRead names 0 v0 (strip_bom bytes)) (plain ∙ sym keeps) (read-none count v0 (strip_bom bytes) counted none) in
       let left = leaves (strip_bom bytes) first in
       begun-line n v (strip_bom bytes) line left.0 more left.1 left.2
+
+  -- nothing is left behind an empty line
+  pub posts-lines : (count n : ℕ) (v0 v : List (List Value)) (text kept left : Option (List ℕ)) (line : List ℕ) → count ≡ length names → v0 ≡ replicate count []
+      → Keeps text kept → IfSome text (λ bytes. strip_bom bytes ≡ bytes) → LeavesLine names 0 v0 n v kept left line → length line ≡ 1
+      → IfSome text (λ bytes. PostAll names bytes v)
+  unfolding next_record
+  posts-lines count n v0 v None kept left line counted none keeps plain leaves empty = tt
+  posts-lines count n v0 v (Some bytes) None left line counted none keeps plain leaves empty = absurd keeps
+  posts-lines count n v0 v (Some bytes) (Some kept) None line counted none keeps plain leaves empty = absurd leaves
+  posts-lines count n v0 v (Some bytes) (Some kept) (Some more) line counted none keeps plain leaves empty =
+      let first = subst (IsRead names 0 v0 (strip_bom bytes)) (plain ∙ sym keeps) (read-none count v0 (strip_bom bytes) counted none) in
+      let left = leaves (strip_bom bytes) first in
+      let nothing = is-empty left.0 (omega (arith, empty, ap length left.1)) in
+      let ended : left.0 ++ more ≡ [] = ap (λ (rest : List ℕ). rest ++ more) nothing ∙ left.3 nothing in
+      let read = left.2 in
+      (read.rows, (at.StartRecord, [], subst (Reached default_config at.StartRecord (strip_bom bytes) read.rows at.StartRecord) ended read.reached, refl), read.fine, read.posted)
 
   -- or from its first byte on
   pub begins-all : (count : ℕ) (v0 : List (List Value)) (text kept : Option (List ℕ)) → count ≡ length names → v0 ≡ replicate count [] → Keeps text kept

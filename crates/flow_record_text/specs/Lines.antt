@@ -75,11 +75,11 @@ StopsFrom names number values None refusal = Unit {0}
 StopsFrom names number values (Some left) refusal =
     (bytes : List ℕ) → IsRead names number values bytes left → ExplainsOf names bytes refusal
 
--- a line was read, and stands behind a line feed
+-- a line was read, and stands behind a line feed; where it is empty, the text has ended
 abbrev pub ReadsLine : Option (List ℕ) → Option (List ℕ) → List ℕ → Type 0
 ReadsLine None new line = (rest : List ℕ) × (line ≡ 10 ∷ rest)
 ReadsLine (Some left) None line = ⊥
-ReadsLine (Some left) (Some more) line = (rest : List ℕ) × (line ≡ 10 ∷ rest) × (left ≡ rest ++ more)
+ReadsLine (Some left) (Some more) line = (rest : List ℕ) × (line ≡ 10 ∷ rest) × (left ≡ rest ++ more) × (rest ≡ [] → more ≡ [])
 
 -- what was read, up to a line that is behind a line feed, and what a reader has left
 abbrev pub LeavesLine : List (List ℕ) → ℕ → List (List Value) → ℕ → List (List Value) → Option (List ℕ) → Option (List ℕ) → List ℕ → Type 0
@@ -87,7 +87,7 @@ LeavesLine names number values next after None new line = Unit {0}
 LeavesLine names number values next after (Some left) None line = ⊥
 LeavesLine names number values next after (Some left) (Some more) line =
     (bytes : List ℕ) → IsRead names number values bytes left
-    → (rest : List ℕ) × (line ≡ 10 ∷ rest) × IsRead names next after bytes (rest ++ more)
+    → (rest : List ℕ) × (line ≡ 10 ∷ rest) × IsRead names next after bytes (rest ++ more) × (rest ≡ [] → more ≡ [])
 
 -- a text was begun: what is left reads as the rest of it does
 pub record Begun (names : List (List ℕ)) (number : ℕ) (values : List (List Value)) (bytes left : List ℕ) : Type 0 where

@@ -115,6 +115,10 @@ fn read_named<R: Read + Drop>(
     if begins_plainly(&mut reader)? {
         front = read_lines(alloc, &mut reader, names, &places, &mut posted, &mut seen)?;
     }
+    // Behind a lone line feed nothing is left, so no reader of CSV is made, which makes tables before it reads.
+    if front.len() == 1 {
+        return Ok(posted);
+    }
     let rest = Rest {
         front,
         at: 0,

@@ -1,4 +1,4 @@
-use Rattle.std.proofs.Common.{◌≡◌, ℕ, Bor, List, length, drop, ap, sym, subst, rules}
+use Rattle.std.proofs.Common.{◌≡◌, ℕ, Bor, List, length, drop, ap, sym, subst, rules, arith}
 use Rattle.std.specs.Prelude.{Ok, Option}
 use Rattle.std.specs.Io.KnownBytes.{Keeps, prepend_known}
 use Rattle.std.specs.Io.Buffered.{reader_remaining}
@@ -7,7 +7,7 @@ use Rattle.std.proofs.lemmas.Result.{err_from_is_err_and}
 use Rattle.std.specs.Prelude.{IfSome}
 use Rattle.csv.specs.Reading.{strip_bom}
 use Rattle.flow_record_text.specs.Records.{texts_of, posted_values}
-use Rattle.flow_record_text.proofs.LinesRead.{BeginsAt, begins-lines, begins-all, ends-all, refuses-all, refuses-lines, of-ok, of-err}
+use Rattle.flow_record_text.proofs.LinesRead.{BeginsAt, begins-lines, posts-lines, begins-all, ends-all, refuses-all, refuses-lines, of-ok, of-err}
 use Rattle.flow_record_text.proofs.records.read_named.Given.{Over}
 use Rattle.flow_record_text.proofs.records.read_named.Goals.{then-branch+in_ok-front, else-branch}
 use Rattle.flow_record_text.proofs.records.read_named.Goals as goal
@@ -28,6 +28,21 @@ begins g c =
       | else-branch w ↦
           rw (w.posted-is, w.seen-is, w.reader-is, w.front-is, c.new-front.ensures.items) (begins-all names (length c.args.names.now) (posted_values c.in_ok-posted.posted.items)
           (g.R.Read.remaining c.args.reader) kept count none keeps)
+    ]
+
+pub returns-then-len-eq1-clause-values : goal.returns-then-len-eq1-clause-values
+returns-then-len-eq1-clause-values g c =
+    let long : length c.if-branch.front.items ≡ 1 = search rules in
+    let count = sym (length-map c.args.names.now (λ (name : Bor (List ℕ)). name.now)) in
+    let kept = reader_remaining g.R.Read.remaining c.begins_plainly.new.reader in
+    let keeps = subst (λ (text : Option (List ℕ)). Keeps text kept) c.in_ok-reader.ensures.all c.in_ok-begins_plainly.ensures.keeps in
+    elim c.if-branch.branch [
+      | then-branch+in_ok-front w ↦
+          let plain = subst (λ (text : Option (List ℕ)). IfSome text (λ bytes. strip_bom bytes ≡ bytes)) c.in_ok-reader.ensures.all (c.in_ok-begins_plainly.ensures.plain (ap Ok w.if-branch.true)) in
+          rw w.posted-is (posts-lines (texts_of c.args.names.now) (length c.args.names.now) w.read_lines.new.seen.number (posted_values c.in_ok-posted.posted.items)
+          (posted_values w.read_lines.new.posted.items) (g.R.Read.remaining c.args.reader) kept (reader_remaining g.R.Read.remaining w.read_lines.new.reader) w.in_ok-front.front.items count
+          c.in_ok-posted.ensures.values keeps plain w.in_ok-front.ensures.left (rw w.front-is at long))
+      | else-branch w ↦ absurd (omega (arith, rw (w.front-is, c.new-front.ensures.items) at long))
     ]
 
 pub returns-in_err-front-clause-refused : goal.returns-in_err-front-clause-refused
