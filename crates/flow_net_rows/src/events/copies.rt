@@ -1,5 +1,5 @@
 //! Blocks that copy: each link is given a copy of the element.
-use crate::cases::check_cases;
+use crate::events::cases::check_cases;
 use flow_trial::{BROADCASTS, PAIRED, WRITE_ONCES};
 use std::test::Fail;
 

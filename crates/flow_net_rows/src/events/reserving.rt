@@ -1,5 +1,5 @@
 //! Joins that reserve: they take whole tuples alone, and what finds no partner stays at its source.
-use crate::cases::{check_cases, fault_of};
+use crate::events::cases::{check_cases, fault_of};
 use flow_link::PlanFault;
 use flow_trial::{CROWDED, RESERVING, SHARED};
 use std::test::Fail;

@@ -1,5 +1,5 @@
 //! Networks whose links branch and meet, whose blocks have room for so many messages, and whose links carry some messages or so many.
-use crate::cases::{check_cases, fault_of};
+use crate::events::cases::{check_cases, fault_of};
 use flow_link::{Place, PlanFault};
 use flow_trial::{BATCHES, CHAINS, FAULTS, LINKS, WORKS};
 use std::test::Fail;

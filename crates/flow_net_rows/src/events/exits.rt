@@ -1,5 +1,5 @@
 //! Exits: a caller may receive from a block, but nobody asks here, so each message that is offered there is put off.
-use crate::cases::{check_cases, fault_of};
+use crate::events::cases::{check_cases, fault_of};
 use flow_link::{Place, PlanFault};
 use std::test::Fail;
 

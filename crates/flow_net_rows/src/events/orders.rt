@@ -1,5 +1,5 @@
 //! Networks that are driven event by event: what may happen, and what comes of it in whatever order it happens.
-use crate::check::check;
+use crate::events::check::check;
 use flow_link::{Ending, Mark};
 use flow_net::{Settled, State};
 use flow_trial::{PAIR, THREE, came_to, network, settles, wander};

@@ -1,5 +1,5 @@
 //! Joins: a row of one message from each port, as long as each port has one.
-use crate::cases::{check_cases, fault_of};
+use crate::events::cases::{check_cases, fault_of};
 use flow_link::{Place, PlanFault};
 use flow_trial::JOINS;
 use std::test::Fail;

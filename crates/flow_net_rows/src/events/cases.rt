@@ -1,6 +1,6 @@
 //! Tables of networks that are drawn in a line, with records, each with what it comes to.
 
-use crate::check::check;
+use crate::events::check::check;
 use flow_drawn::draft;
 use flow_link::{PlanFault, PlanRefusal, plan_check};
 use flow_trial::{Case, do_first, in_order, read_case, settles, wander};

@@ -1,5 +1,5 @@
 //! Batched joins: groups of so many messages from all ports.
-use crate::cases::check_cases;
+use crate::events::cases::check_cases;
 use flow_net::{Net, Settled};
 use flow_trial::{Asked, BATCHED_JOINS, came_to, do_first, in_order, read_case};
 use flow_value::Steps;
